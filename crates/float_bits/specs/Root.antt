@@ -1,0 +1,25 @@
+-- The f32 square root.
+use Prim.Native.Nat.{ℕ, zero, suc, _+_, _*_, _/_, _^_}
+use mathlib.Core.Bool.{true, false, cond}
+use lib.Dec.{leb, eqb}
+use lib.Ieee.{Float, nan, inf, fin, binary32, round, up, down}
+
+-- the largest whole number whose square is at most n, for an n below 4 ^ k: digit by digit
+unfoldable pub rootTo : ℕ → ℕ → ℕ
+rootTo zero n = 0
+rootTo (suc k) n = let r = 2 * rootTo k (n / 4) in cond (leb ((r + 1) * (r + 1)) n) (r + 1) r
+
+-- √n in whole numbers, doubled, and one more where n is no square
+unfoldable pub twiceRoot : ℕ → ℕ
+twiceRoot n = let r = rootTo 213 n in 2 * r + cond (eqb (r * r) n) 0 1
+
+-- NaN, +infinity and zeros give themselves, and what is below zero gives NaN.
+-- Else x is n units of 2 ^ -298, so √x is √n units of 2 ^ -149. Every value that an f32 between two of these could be
+-- rounded to or from is a whole number of such units, so the half unit that stands for a root's fraction is rounded as the root is.
+unfoldable pub sqrtOf : Float → Float
+sqrtOf nan = nan
+sqrtOf (inf true) = nan
+sqrtOf (inf false) = inf false
+sqrtOf (fin s zero e) = fin s zero e
+sqrtOf (fin true (suc m) e) = nan
+sqrtOf (fin false (suc m) e) = round binary32 false (twiceRoot (suc m * up e * 2 ^ 298 / down e)) (2 ^ 150)
