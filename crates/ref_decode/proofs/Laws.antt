@@ -1,0 +1,81 @@
+-- What the limits ask of the inner steps.
+use mathlib.Core.Path.{_≡_, refl, ap, _∙_, sym}
+use mathlib.Core.Bool.{Bool, true, false, cond}
+use mathlib.Core.List.{List}
+use Prim.Native.Nat.{ℕ, zero, suc, _+_, _*_, _-_, _^_, _≤_}
+use native.Mathlib.Omega.{arith}
+use native.Mathlib.Nat.{suc-add}
+use lib.ListN.{length, length-replicate}
+use lib.Seq.{slice}
+use lib.Dec.{eqb}
+use lib.Ieee.{Float}
+use Rattle.ref_decode.specs.Stub.{quiet, Tail, Synth, draw, draws, pitchSearch, pitchDownsample, pitchDownsamplePair, pitchSynth, noiseBlock}
+use Rattle.ref_decode.specs.State.{frame, stereo, factor, firstBin, numberOf, kindOf, samplesOf}
+use Rattle.ref_decode.specs.Refusal.{refusedWith}
+use Rattle.ref_decode.specs.Steps.{lagOf, pitch, block}
+use Rattle.ref_decode.specs.declared.state.Filter.{Filter}
+use Rattle.ref_decode.specs.declared.state.Settings.{Settings}
+use Rattle.ref_decode.specs.declared.state.Verdict.{Verdict}
+use Rattle.ref_decode.specs.declared.state.Verdict.the-variants.{Pitch, Noise, BadLm, BadChannels, BadStart, BadEnd, BadDownsample, CountFull, BadLag, BadFilter, BadHistory, ShortPcm}
+
+pub found-most : (y : List Float) → pitchSearch y ≤ 618
+unfolding pitchSearch
+found-most y = omega arith
+
+pub lag-low : (k : Settings) (h : List Float) → 102 ≤ lagOf k h
+unfolding lagOf
+lag-low k h =
+    omega
+    (arith, found-most (cond (stereo k) (pitchDownsamplePair (slice 0 2048 h) (slice 2168 4216 h)) (pitchDownsample (slice 0 2048 h))))
+
+pub lag-high : (k : Settings) (h : List Float) → lagOf k h ≤ 720
+unfolding lagOf
+lag-high k h = omega arith
+
+pub pitch-samples : (k : Settings) (t : Tail) (lag : ℕ) (fade : Bool) (c : List Float) (f : Filter) → length ((pitch k t lag fade c f) .samples) ≡ frame k
+unfolding pitchSynth
+pitch-samples k t lag fade c f = length-replicate (frame k) quiet
+
+pub pitch-over : (k : Settings) (t : Tail) (lag : ℕ) (fade : Bool) (c : List Float) (f : Filter) → length ((pitch k t lag fade c f) .over) ≡ 120
+unfolding pitchSynth
+pitch-over k t lag fade c f = length-replicate 120 quiet
+
+pub block-samples : (k : Settings) (seed : ℕ) (e : List Float) → length ((block k seed e) .samples) ≡ frame k + 120
+unfolding noiseBlock frame factor
+block-samples k seed e = length-replicate (120 * 2 ^ k .lm + 120) quiet
+
+pub block-seed : (k : Settings) (seed : ℕ) (e : List Float) → k .start ≤ 20 → (block k seed e) .seed ≡ draws (factor k * (100 - firstBin k)) seed
+unfolding noiseBlock factor firstBin
+block-seed k seed e l = refl
+
+pub draws-add : (a b s : ℕ) → draws (a + b) s ≡ draws b (draws a s)
+unfolding draws
+draws-add zero b s = ap (λ n. draws n s) (let z : 0 + b ≡ b = omega arith in z)
+draws-add (suc a) b s = ap (λ n. draws n s) (suc-add a b) ∙ draws-add a b (draw s)
+
+-- a refusal's number is not 0
+cond-either : {A : Type 0} (P : A → Type 0) (b : Bool) (x y : A) → P x → P y → P (cond b x y)
+cond-either P true x y p q = p
+cond-either P false x y p q = q
+
+Refuses : Verdict → Type 0
+Refuses v = eqb (numberOf v) 0 ≡ false
+
+pub refused-number : (n : ℕ) → eqb (numberOf (refusedWith n)) 0 ≡ false
+unfolding refusedWith numberOf Refuses
+refused-number n =
+    cond-either Refuses (eqb n 1) _ _ refl
+    (cond-either Refuses (eqb n 2) _ _ refl
+    (cond-either Refuses (eqb n 3) _ _ refl
+    (cond-either Refuses (eqb n 4) _ _ refl
+    (cond-either Refuses (eqb n 5) _ _ refl
+    (cond-either Refuses (eqb n 6) _ _ refl
+    (cond-either Refuses (eqb n 7) _ _ refl
+    (cond-either Refuses (eqb n 8) _ _ refl
+    (cond-either Refuses (eqb n 9) BadHistory ShortPcm refl refl))))))))
+
+-- an accepted loss's number is 0
+pub accepted-number : (b : Bool) (n : ℕ) → numberOf (cond b (Noise n) (Pitch n)) ≡ 0
+unfolding numberOf
+accepted-number true n = refl
+accepted-number false n = refl

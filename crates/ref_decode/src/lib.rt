@@ -1,0 +1,2 @@
+// One lost frame, from a carried state and its lent history to PCM: `CeltRefDecoder::decode_lost`.
+pub mod state;
