@@ -1,4 +1,5 @@
 pub mod Laws
+pub mod Table
 pub mod Parts
 pub mod Keep
 pub mod Limits

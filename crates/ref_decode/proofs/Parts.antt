@@ -11,7 +11,7 @@ use lib.Ieee.{Float, add, binary32}
 use lib.Dec.{leb, ltb, eqb, lit<}
 use borrow.Author.Tests.{ltb-false, leb-true, not-false}
 use Rattle.ref_decode.specs.State.{factor, frame, stereo}
-use Rattle.ref_decode.specs.Refusal.{checkSettings, within}
+use Rattle.ref_decode.specs.Refusal.{checkSettings, checkDownsample, within}
 use Rattle.ref_decode.specs.Stub.{Tail, Synth}
 use Rattle.ref_decode.specs.History.{Tails, tails, withTails, both, ahead}
 use Rattle.ref_decode.specs.Steps.{rolled, laid, covered}
@@ -143,6 +143,12 @@ module _ (k : Settings) (good : checkSettings k ≡ 0) where
   start-small =
       ltb-false 20 (k .start)
       ((passed (ltb 20 (k .start)) 2 _ ((passed (not (within 1 2 (k .channels))) 1 _ ((passed (ltb 3 (k .lm)) 0 _ good) .1)) .1)) .0)
+
+  pub downsample-passed : checkDownsample (k .downsample) ≡ 0
+  unfolding checkSettings
+  downsample-passed =
+      (passed (leb (k .end) (k .start) || ltb 21 (k .end)) 3 _
+      ((passed (ltb 20 (k .start)) 2 _ ((passed (not (within 1 2 (k .channels))) 1 _ ((passed (ltb 3 (k .lm)) 0 _ good) .1)) .1)) .1)) .1
 
   pub frame-low : 120 ≤ frame k
   unfolding frame factor

@@ -21,6 +21,10 @@ orElse (suc n) m = suc n
 abbrev pub within : ℕ → ℕ → ℕ → Bool
 within lo hi x = leb lo x && leb x hi
 
+-- 5
+unfoldable pub checkDownsample : ℕ → ℕ
+checkDownsample d = cond (within 1 4 d || eqb d 6) 0 5
+
 -- 1 to 5
 unfoldable pub checkSettings : Settings → ℕ
 checkSettings k =
@@ -28,7 +32,7 @@ checkSettings k =
     (cond (not (within 1 2 (k .channels))) 2
     (cond (ltb 20 (k .start)) 3
     (cond (leb (k .end) (k .start) || ltb 21 (k .end)) 4
-    (cond (not (within 1 4 (k .downsample) || eqb (k .downsample) 6)) 5 0))))
+    (checkDownsample (k .downsample)))))
 
 unfoldable pub checkCount : ℕ → ℕ
 checkCount c = cond (eqb c 4_294_967_295) 6 0
