@@ -62,7 +62,7 @@ Refuses : Verdict → Type 0
 Refuses v = eqb (numberOf v) 0 ≡ false
 
 pub refused-number : (n : ℕ) → eqb (numberOf (refusedWith n)) 0 ≡ false
-unfolding refusedWith numberOf Refuses
+unfolding refusedWith Refuses
 refused-number n =
     cond-either Refuses (eqb n 1) _ _ refl
     (cond-either Refuses (eqb n 2) _ _ refl
@@ -76,6 +76,5 @@ refused-number n =
 
 -- an accepted loss's number is 0
 pub accepted-number : (b : Bool) (n : ℕ) → numberOf (cond b (Noise n) (Pitch n)) ≡ 0
-unfolding numberOf
 accepted-number true n = refl
 accepted-number false n = refl

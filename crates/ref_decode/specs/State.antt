@@ -49,7 +49,7 @@ unfoldable pub searches : State → Bool
 searches s = eqb (s .«loss_count») 0 && eqb (s .settings .start) 0
 
 -- document 01's number for each answer: 0 is acceptance
-unfoldable pub numberOf : Verdict → ℕ
+abbrev pub numberOf : Verdict → ℕ
 numberOf (Pitch n) = 0
 numberOf (Noise n) = 0
 numberOf BadLm = 1
@@ -64,7 +64,7 @@ numberOf BadHistory = 9
 numberOf ShortPcm = 10
 
 -- the kind: 1 the pitch path, 2 the noise path, 0 a refusal
-unfoldable pub kindOf : Verdict → ℕ
+abbrev pub kindOf : Verdict → ℕ
 kindOf (Pitch n) = 1
 kindOf (Noise n) = 2
 kindOf BadLm = 0
@@ -79,7 +79,7 @@ kindOf BadHistory = 0
 kindOf ShortPcm = 0
 
 -- the samples written
-unfoldable pub samplesOf : Verdict → ℕ
+abbrev pub samplesOf : Verdict → ℕ
 samplesOf (Pitch n) = n
 samplesOf (Noise n) = n
 samplesOf BadLm = 0

@@ -1,4 +1,7 @@
 // What a call takes and returns: the decoder's carried state, and the answer.
+ghost use mathlib.Core.Path.{_≡_};
+ghost use Rattle.ref_decode.specs.State.{numberOf, kindOf, samplesOf};
+
 pub struct Filter {
     pub gain: f32,
     pub period: u32,
@@ -47,4 +50,66 @@ pub enum Verdict {
 pub struct Answer {
     pub verdict: Verdict,
     pub state: State,
+}
+
+impl Verdict {
+    // Document 01's number: 0 is acceptance.
+    pub fn number(self) -> u32
+        ensures { λ r. ⌜ r ≡ numberOf self ⌝ }
+    {
+        match self {
+            Verdict::Pitch(_) => 0,
+            Verdict::Noise(_) => 0,
+            Verdict::BadLm => 1,
+            Verdict::BadChannels => 2,
+            Verdict::BadStart => 3,
+            Verdict::BadEnd => 4,
+            Verdict::BadDownsample => 5,
+            Verdict::CountFull => 6,
+            Verdict::BadLag => 7,
+            Verdict::BadFilter => 8,
+            Verdict::BadHistory => 9,
+            Verdict::ShortPcm => 10,
+        }
+    }
+
+    // 1 the pitch path, 2 the noise path, 0 a refusal.
+    pub fn kind(self) -> u32
+        ensures { λ r. ⌜ r ≡ kindOf self ⌝ }
+    {
+        match self {
+            Verdict::Pitch(_) => 1,
+            Verdict::Noise(_) => 2,
+            Verdict::BadLm => 0,
+            Verdict::BadChannels => 0,
+            Verdict::BadStart => 0,
+            Verdict::BadEnd => 0,
+            Verdict::BadDownsample => 0,
+            Verdict::CountFull => 0,
+            Verdict::BadLag => 0,
+            Verdict::BadFilter => 0,
+            Verdict::BadHistory => 0,
+            Verdict::ShortPcm => 0,
+        }
+    }
+
+    // The PCM samples written.
+    pub fn samples(self) -> usize
+        ensures { λ r. ⌜ r ≡ samplesOf self ⌝ }
+    {
+        match self {
+            Verdict::Pitch(n) => n,
+            Verdict::Noise(n) => n,
+            Verdict::BadLm => 0,
+            Verdict::BadChannels => 0,
+            Verdict::BadStart => 0,
+            Verdict::BadEnd => 0,
+            Verdict::BadDownsample => 0,
+            Verdict::CountFull => 0,
+            Verdict::BadLag => 0,
+            Verdict::BadFilter => 0,
+            Verdict::BadHistory => 0,
+            Verdict::ShortPcm => 0,
+        }
+    }
 }
