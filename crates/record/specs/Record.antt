@@ -2,18 +2,26 @@
 use mathlib.Core.List.{List, [], _∷_, _++_}
 use Prim.Native.Nat.{ℕ}
 use lib.Ieee.{Float, binary32, ofBits, toBits}
+use Rattle.ref_decode.specs.declared.state.Filter.{Filter}
+use Rattle.ref_decode.specs.declared.state.Settings.{Settings}
 use Rattle.ref_decode.specs.declared.state.State.{State}
 use Rattle.record.specs.Bytes.{wordAt, floatsAt, wordsBytes, floatsBytes}
 
--- lm, channels, start, end, downsample, loss count, seed, lag, filter period, filter gain, tapset; 50 coarse energies;
--- 50 background energies; 2 de-emphasis memories; 48 predictor coefficients
+-- the first five words
+unfoldable pub settingsOf : List ℕ → Settings
+settingsOf b = record { lm = wordAt b 0; channels = wordAt b 1; start = wordAt b 2; end = wordAt b 3; downsample = wordAt b 4 }
+
+unfoldable pub filterOf : List ℕ → Filter
+filterOf b = record { period = wordAt b 8; gain = ofBits binary32 (wordAt b 9); tapset = wordAt b 10 }
+
+-- settings, loss count, seed, lag, filter; 50 coarse energies; 50 background energies; 2 de-emphasis memories; 48 predictor coefficients
 unfoldable pub stateOf : List ℕ → State
 stateOf b = record {
-  settings = record { lm = wordAt b 0; channels = wordAt b 1; start = wordAt b 2; end = wordAt b 3; downsample = wordAt b 4 };
+  settings = settingsOf b;
   «loss_count» = wordAt b 5;
   seed = wordAt b 6;
   lag = wordAt b 7;
-  filter = record { period = wordAt b 8; gain = ofBits binary32 (wordAt b 9); tapset = wordAt b 10 };
+  filter = filterOf b;
   coarse = floatsAt b 11 50;
   background = floatsAt b 61 50;
   memories = floatsAt b 111 2;
@@ -30,8 +38,11 @@ headWords s =
     s .settings .lm ∷ s .settings .channels ∷ s .settings .start ∷ s .settings .end ∷ s .settings .downsample ∷ s .«loss_count» ∷ s .seed ∷ s .lag
     ∷ s .filter .period ∷ toBits binary32 (s .filter .gain) ∷ s .filter .tapset ∷ []
 
+-- a state's bytes
+unfoldable pub stateBytes : State → List ℕ
+stateBytes s =
+    (wordsBytes (headWords s) ++ (floatsBytes (s .coarse) ++ floatsBytes (s .background))) ++ (floatsBytes (s .memories) ++ floatsBytes (s .predictor))
+
 -- a record's 17,988 bytes
 unfoldable pub recordOf : State → List Float → List ℕ
-recordOf s h =
-    wordsBytes (headWords s)
-    ++ (floatsBytes (s .coarse) ++ (floatsBytes (s .background) ++ (floatsBytes (s .memories) ++ (floatsBytes (s .predictor) ++ floatsBytes h))))
+recordOf s h = stateBytes s ++ floatsBytes h

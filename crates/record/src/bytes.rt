@@ -4,6 +4,7 @@ ghost use mathlib.Core.List.{List};
 ghost use Prim.Native.Nat.{ℕ, _+_, _*_, _≤_, _<_};
 ghost use lib.ListN.{length, set};
 ghost use lib.Ieee.{binary32, ofBits, toBits};
+ghost use Rattle.loops.specs.Part.{put};
 ghost use Rattle.record.specs.Bytes.{wordAt, floatsAt, byteOf, wordsBytes, floatsBytes};
 
 // The word numbered i.
@@ -42,7 +43,7 @@ fn put_word(b: &mut [u8], k: usize, w: u32)
 }
 
 // The words' bytes.
-pub(crate) fn put_words(b: &mut [u8], ws: &[u32])
+fn put_words(b: &mut [u8], ws: &[u32])
     requires { ⌜ length (now b) ≡ 4 * length (now ws) ⌝ }
     ensures { λ _. ⌜ now (b .exit) ≡ wordsBytes (now (ws .entry)) ⌝ }
 {
@@ -53,7 +54,7 @@ pub(crate) fn put_words(b: &mut [u8], ws: &[u32])
 }
 
 // The floats' bytes.
-pub(crate) fn put_floats(b: &mut [u8], xs: &[f32])
+fn put_floats(b: &mut [u8], xs: &[f32])
     requires { ⌜ length (now b) ≡ 4 * length (now xs) ⌝ }
     ensures { λ _. ⌜ now (b .exit) ≡ floatsBytes (now (xs .entry)) ⌝ }
 {
@@ -61,4 +62,22 @@ pub(crate) fn put_floats(b: &mut [u8], xs: &[f32])
     for i in 0..n {
         put_word(b, 4 * i, float_bits::words::f32_to_word(xs[i]));
     }
+}
+
+// The words' bytes from place `at` on.
+pub(crate) fn put_words_at(b: &mut [u8], at: usize, ws: &[u32])
+    requires { ⌜ at + 4 * length (now ws) ≤ length (now b) ⌝ }
+    ensures { λ _. ⌜ now (b .exit) ≡ put at (4 * length (now (ws .entry))) (wordsBytes (now (ws .entry))) (now (b .entry)) ⌝ }
+{
+    let end = at + 4 * ws.len();
+    put_words(&mut b[at..end], ws);
+}
+
+// The floats' bytes from place `at` on.
+pub(crate) fn put_floats_at(b: &mut [u8], at: usize, xs: &[f32])
+    requires { ⌜ at + 4 * length (now xs) ≤ length (now b) ⌝ }
+    ensures { λ _. ⌜ now (b .exit) ≡ put at (4 * length (now (xs .entry))) (floatsBytes (now (xs .entry))) (now (b .entry)) ⌝ }
+{
+    let end = at + 4 * xs.len();
+    put_floats(&mut b[at..end], xs);
 }

@@ -1,2 +1,3 @@
 // The tent's file: a record's bytes to a state and its history, and back; the answer to a record.
 mod bytes;
+pub mod fields;
