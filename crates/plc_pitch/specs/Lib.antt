@@ -2,3 +2,4 @@
 pub mod Best
 pub mod Search
 pub mod LagWindow
+pub mod Rows

@@ -1,3 +1,8 @@
+use Prim.Native.Nat.{_^_}
+use Rattle.plc_pitch.specs.LagWindow.{windowed, lagFactor}
+use native.Mathlib.Nat.{le-trans}
+use lib.Dec.{le→leb}
+use lib.Ieee.{inFloat}
 use mathlib.Core.Path.{_≡_, refl, ap, _∙_, sym}
 use mathlib.Core.List.{List, [], _∷_, _++_}
 use mathlib.Core.Logic.{⊎-elim}
@@ -13,11 +18,15 @@ use Rattle.plc_pitch.proofs.lag_window.lag_value.Lts as lts
 
 -- src/lag_window.rt:14:22
 int-to-float-f : tie.Need-int-to-float-f
-int-to-float-f c = search needs
+unfolding inFloat
+int-to-float-f c =
+    le→leb (c .before .args .i) (2 ^ 24) (omega arith)
 
 -- src/lag_window.rt:10:1
 returns : tie.Need-returns
-returns c = search needs
+unfolding windowed lagFactor
+returns c =
+    refl
 
 pub lag-value-spec : {M : Type 1} → statement M
 lag-value-spec = tie.close (tie.spec int-to-float-f returns)
