@@ -1,4 +1,4 @@
 mod Turn
 mod Rows
 mod Near
-mod Coarse
+mod Steps

@@ -24,7 +24,6 @@ abbrev μ-loop : tie.MeasureT-loop
 μ-loop v y sums₀ n i₀ sums i =
     n - i
 
-
 -- src/search.rt:26:5
 loop-holds : tie.Need-loop-holds Inv-loop μ-loop
 loop-holds c =
@@ -67,13 +66,12 @@ loop-again : tie.Need-loop-again Inv-loop μ-loop
 loop-again c =
     let l = c .before .before .before .loop in
     let a = c .before .before .before .before .args in
-    let h : l .i < length (a .sums .now) = search needs in
-    (
+    let h : l .i < length (a .sums .now) = search needs in (
       search needs,
       search needs,
       simp length-set (l .inv .2),
       tab-more _ nan _ _ _ (l .inv .3) _
-      (ap (λ z. add binary32 z (mul binary32 (a .v) (getD (a .y .now) (l .i) nan))) (tab-read (term (a .v) (a .y .now) (a .sums .now)) nan _ _ _ (l .inv .3) h)) h,
+          (ap (λ z. add binary32 z (mul binary32 (a .v) (getD (a .y .now) (l .i) nan))) (tab-read (term (a .v) (a .y .now) (a .sums .now)) nan _ _ _ (l .inv .3) h)) h,
     )
 
 -- src/search.rt:21:1

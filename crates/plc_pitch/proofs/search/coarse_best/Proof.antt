@@ -1,4 +1,4 @@
-use Rattle.plc_pitch.proofs.Coarse.{coarse-done, first-count, length-second}
+use Rattle.plc_pitch.proofs.Steps.{coarse-done, first-count, length-second}
 use mathlib.Core.Path.{_≡_, refl, ap, _∙_, sym}
 use mathlib.Core.List.{List, [], _∷_, _++_}
 use mathlib.Core.Logic.{⊎-elim}
@@ -74,11 +74,10 @@ slice-aggregate-two-best-2 c = search needs
 
 -- src/search.rt:118:5
 two-best-requires : tie.Need-two-best-requires
-two-best-requires c κs =
-    (
-      omega (arith, first-count _ _ 155 156 (omega arith) (c .before .before .before .correlate .ensures)),
-      omega (arith, ap length (c .before .before .before .before .before .before .before .before .every-second2 .ensures) ∙ length-second _ 487),
-    )
+two-best-requires c κs = (
+  omega (arith, first-count _ _ 155 156 (omega arith) (c .before .before .before .correlate .ensures)),
+  omega (arith, ap length (c .before .before .before .before .before .before .before .before .every-second2 .ensures) ∙ length-second _ 487),
+)
 
 -- src/search.rt:108:1
 returns : tie.Need-returns

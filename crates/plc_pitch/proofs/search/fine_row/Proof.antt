@@ -66,13 +66,12 @@ loop-less c = search needs
 loop-again : tie.Need-loop-again Inv-loop μ-loop
 loop-again c =
     let l = c .before .before .before .before .before .loop in
-    let n = c .before .before .before .before .before .before in
-    (
+    let n = c .before .before .before .before .before .before in (
       search needs,
       simp length-set (l .inv .1),
       tab-more _ nan _ _ _ (l .inv .2) _
-      (fine-at _ _ _ _ _ _ _ _ (n .before .near-row .ensures) (n .near-row2 .ensures) (c .before .near-or .ensures) (c .near-or2 .ensures))
-      (search needs),
+          (fine-at _ _ _ _ _ _ _ _ (n .before .near-row .ensures) (n .near-row2 .ensures) (c .before .near-or .ensures) (c .near-or2 .ensures))
+          (search needs),
     )
 
 -- src/search.rt:95:1

@@ -1,3 +1,4 @@
+use Rattle.plc_pitch.proofs.Steps.{coarse-within, fine-within, search-done}
 use mathlib.Core.Path.{_≡_, refl, ap, _∙_, sym}
 use mathlib.Core.List.{List, [], _∷_, _++_}
 use mathlib.Core.Logic.{⊎-elim}
@@ -25,7 +26,9 @@ slice-aggregate-fine-row c = search needs
 
 -- src/search.rt:152:5
 fine-row-requires : tie.Need-fine-row-requires
-fine-row-requires c κs = search needs
+fine-row-requires c κs =
+    let w = coarse-within _ _ (c .before .before .coarse-best .ensures) in
+    (search needs, omega (arith, w .first), omega (arith, w .second), refl)
 
 -- src/search.rt:153:26
 slice-aggregate-two-best : tie.Need-slice-aggregate-two-best
@@ -37,11 +40,15 @@ two-best-requires c κs = search needs
 
 -- src/search.rt:154:5
 refine-requires : tie.Need-refine-requires
-refine-requires c κs = search needs
+refine-requires c κs =
+    fine-within _ _ _ (c .before .two-best .ensures) .first
 
 -- src/search.rt:147:1
 returns : tie.Need-returns
-returns c = search needs
+returns c =
+    search-done _ _ _ _ _ (c .before .before .before .before .before .before .before .before .before .coarse-best .ensures)
+    (c .before .before .before .before .before .before .fine-row .ensures)
+    (c .before .before .two-best .ensures) (c .refine .ensures)
 
 pub pitch-search-spec : {M : Type 1} → statement M
 pitch-search-spec =

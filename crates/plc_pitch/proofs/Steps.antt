@@ -1,4 +1,4 @@
--- The coarse search's steps put together.
+-- The steps of the search put together.
 use mathlib.Core.Path.{_≡_, refl, ap, _∙_, sym}
 use mathlib.Core.List.{List}
 use Prim.Native.Nat.{ℕ, _+_, _-_, _≤_, _<_}
@@ -9,7 +9,8 @@ use lib.Seq.{getD-take, length-take-le, ext-getD}
 use Rattle.loops.specs.Front.{tab, getD-tab, length-tab}
 use Rattle.plc_pitch.specs.declared.best.Best.{Best}
 use Rattle.plc_pitch.specs.Best.{findBestPitch}
-use Rattle.plc_pitch.specs.Search.{everySecond, correlation, coarse, coarseBest}
+use Rattle.plc_pitch.specs.Search.{everySecond, correlation, coarse, coarseBest, fineAt, fine, fineBest, refined, pitchSearch}
+use Rattle.plc_pitch.specs.BestLaws.{Within, best-within}
 use Rattle.plc_pitch.proofs.Rows.{to-end}
 
 take-length-tab : {A : Type 0} (f : ℕ → A) (m n : ℕ) → m ≤ n → length (take m (tab f n)) ≡ m
@@ -42,3 +43,17 @@ coarse-done y x4 y4 xc r e1 e2 e3 e4 =
     e4 ∙ ap (λ z. findBestPitch (take 155 z) y4 332 155) c
     ∙ ap (λ z. findBestPitch z y4 332 155) (take-tab nan (correlation (everySecond (drop 360 y) 332) (everySecond y 487) 332) 155 156 (omega arith))
     ∙ ap (λ z. findBestPitch (tab (correlation (everySecond (drop 360 y) 332) (everySecond y 487) 332) 155) z 332 155) e2
+
+pub coarse-within : (y : List Float) (b : Best) → b ≡ coarseBest y → Within 155 b
+unfolding coarseBest
+coarse-within y b e = rw e (best-within (coarse y) (everySecond y 487) 332 155 (omega arith))
+
+pub fine-within : (xc y : List Float) (b : Best) → b ≡ findBestPitch xc y 664 310 → Within 310 b
+fine-within xc y b e = rw e (best-within xc y 664 310 (omega arith))
+
+pub search-done : (y xc : List Float) (b f : Best) (r : ℕ) → b ≡ coarseBest y → xc ≡ tab (fineAt y (b .at0) (b .at1)) 310
+    → f ≡ findBestPitch xc y 664 310 → r ≡ refined xc (f .at0) → r ≡ pitchSearch y
+unfolding pitchSearch fineBest fine
+search-done y xc b f r e1 e2 e3 e4 =
+    let x : xc ≡ fine y (coarseBest y) = e2 ∙ ap (fine y) e1 in
+    e4 ∙ ap (λ z. refined xc (z .at0)) e3 ∙ ap (λ z. refined z (findBestPitch z y 664 310 .at0)) x
