@@ -13,9 +13,12 @@ use Rattle.plc.specs.Const.{zero32, floor32}
 abbrev pub lagTerm : List Float → ℕ → ℕ → Float
 lagTerm x lag k = mul binary32 (getD x (lag + k) nan) (getD x k nan)
 
--- the sum of x[i] * x[i - lag] for i from lag on
-unfoldable pub lagSum : List Float → ℕ → Float
-lagSum x lag = sumTo binary32 (lagTerm x lag) zero32 (length x - lag)
+-- the sum of x[i] * x[i - lag] for i from lag to just below end
+unfoldable pub lagTo : List Float → ℕ → ℕ → Float
+lagTo x lag end = sumTo binary32 (lagTerm x lag) zero32 (end - lag)
+
+abbrev pub lagSum : List Float → ℕ → Float
+lagSum x lag = lagTo x lag (length x)
 
 -- the correlations at the lags below n, the first with its noise floor
 unfoldable pub celtAutocorr : List Float → ℕ → List Float
@@ -38,3 +41,10 @@ windowedEnds x window = foldTo (windowTurn x window) x (length window)
 pub length-windowedEnds : (x window : List Float) → length (windowedEnds x window) ≡ length x
 unfolding windowedEnds
 length-windowedEnds x window = fold-keeps length (windowTurn x window) x (length window) (λ s i. simp length-set)
+
+-- the sums of n lags below end, the longest lag first: what runs side by side
+abbrev pub rowAt : List Float → ℕ → ℕ → ℕ → Float
+rowAt x n end j = lagTo x (n - 1 - j) end
+
+abbrev pub lagRow : List Float → ℕ → ℕ → List Float
+lagRow x n end = tab (rowAt x n end) n

@@ -7,8 +7,8 @@ ghost use Rattle.plc.specs.Iir.{celtIir, iirTakes, iirPairTakes};
 ghost use Rattle.plc.specs.Pad.{tapsTaken};
 
 // x less the 24 taps before sample i, in order.
-fn less_taps(den: &[f32; 24], pad: &[f32], i: usize, x: f32) -> f32
-    requires { ⌜ 24 + i ≤ length (now pad) ⌝ }
+fn less_taps(den: &[f32], pad: &[f32], i: usize, x: f32) -> f32
+    requires { ⌜ (length (now den) ≡ 24) × (24 + i ≤ length (now pad)) ⌝ }
     ensures { λ r. ⌜ r ≡ tapsTaken (now (den .entry)) (now (pad .entry)) i x 24 ⌝ }
 {
     let mut sum = x;
