@@ -6,6 +6,10 @@ use native.Mathlib.Omega.{arith}
 use native.Mathlib.Numerals.{add-one}
 use lib.ListN.{length, getD, set, take, drop, length-set}
 use borrow.Author.Needs.{needs}
+use lib.Ieee.{Float}
+use Rattle.plc.specs.Autocorr.{lagRow}
+use Rattle.plc.specs.Autocorr.{celtAutocorr}
+use Rattle.plc.proofs.Lags.{row-size}
 use Rattle.plc.proofs.autocorr.celt_autocorr_windowed.Statement.{statement}
 use Rattle.plc.proofs.autocorr.celt_autocorr_windowed.Tie as tie
 use Rattle.plc.proofs.autocorr.celt_autocorr_windowed.Reads as reads
@@ -45,7 +49,10 @@ slice-aggregate-other-terms-2 c = search needs
 
 -- src/autocorr.rt:85:5
 other-terms-requires : tie.Need-other-terms-requires
-other-terms-requires c κs = search needs
+other-terms-requires c κs =     let f = c .before .before .before .first-terms in
+    let x : List Float = c .before .before .before .before .before .before .before .window-ends .last .1 .1 .0 in
+    let e : length (f .last .1 .0) ≡ 25 = row-size x (f .last .1 .0) 25 24 (f .ensures) in
+    (search needs, search needs, f .ensures ∙ ap (λ z. lagRow x z (z - 1)) (sym e))
 
 -- src/autocorr.rt:87:12
 slice-aggregate-by-lag : tie.Need-slice-aggregate-by-lag
@@ -61,11 +68,15 @@ slice-aggregate-by-lag-3 c = search needs
 
 -- src/autocorr.rt:87:5
 by-lag-requires : tie.Need-by-lag-requires
-by-lag-requires c κs = search needs
+by-lag-requires c κs =     let g = c .before .before .before .before .before .before .before .before .first-terms in
+    let f = c .before .before .before .before .other-terms in
+    let x : List Float = c .before .before .before .before .before .before .before .before .before .before .before .before .window-ends .last .1 .1 .0 in
+    let e : length (g .last .1 .0) ≡ length (f .last .1 .0) = search needs in
+    (search needs, search needs, f .ensures ∙ ap (λ z. lagRow x z (length x)) e)
 
 -- src/autocorr.rt:78:1
 returns : tie.Need-returns
-returns c = search needs
+returns c = c .before .by-lag .ensures ∙ ap (λ z. celtAutocorr z 25) (c .before .before .before .before .before .before .before .before .before .before .before .before .before .before .window-ends .ensures)
 
 pub celt-autocorr-windowed-spec : {M : Type 1} → statement M
 celt-autocorr-windowed-spec =

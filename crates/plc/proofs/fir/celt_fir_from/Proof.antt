@@ -6,6 +6,12 @@ use native.Mathlib.Omega.{arith}
 use native.Mathlib.Numerals.{add-one}
 use lib.ListN.{length, getD, set, take, drop, length-set}
 use borrow.Author.Needs.{needs}
+use mathlib.Core.Bool.{_&&_}
+use lib.Dec.{leb}
+use borrow.Author.Tests.{eq-eqb, ne-eqb, le-leb, lt-leb}
+use Rattle.plc.specs.Fir.{firTakes}
+use Rattle.plc.proofs.Firs.{fir-part, fir-none, fir-unlike, fir-order, fir-long, fir-takes}
+use Rattle.plc.proofs.Answer.{refused, taken}
 use Rattle.plc.proofs.fir.celt_fir_from.Statement.{statement}
 use Rattle.plc.proofs.fir.celt_fir_from.Tie as tie
 use Rattle.plc.proofs.fir.celt_fir_from.Reads as reads
@@ -15,19 +21,23 @@ use Rattle.plc.proofs.fir.padded.Reads as padded-reads
 
 -- src/fir.rt:48:9
 returns : tie.Need-returns
-returns c = search needs
+returns c =     let a = c .before .before .before .before .args in
+    refused _ _ _ (fir-unlike (length (a .num .now)) (length (a .mem .now)) (length (a .buf .now)) (search needs))
 
 -- src/fir.rt:51:9
 returns-2 : tie.Need-returns-2
-returns-2 c = search needs
+returns-2 c =     let a = c .before .before .before .before .before .args in
+    refused _ _ _ (fir-order (length (a .num .now)) (length (a .mem .now)) (length (a .buf .now)) (search needs) (search needs))
 
 -- src/fir.rt:54:9
 returns-3 : tie.Need-returns-3
-returns-3 c = search needs
+returns-3 c =     let a = c .before .before .before .before .before .before .args in
+    refused _ _ _ (fir-long (length (a .num .now)) (length (a .mem .now)) (length (a .buf .now)) (search needs) (search needs) (search needs))
 
 -- src/fir.rt:57:9
 returns-4 : tie.Need-returns-4
-returns-4 c = search needs
+returns-4 c =     let a = c .before .before .before .before .before .before .before .args in
+    taken _ _ _ _ (fir-takes (length (a .num .now)) (length (a .mem .now)) (length (a .buf .now)) (search needs) (search needs) (search needs)) (fir-none (a .num .now) (a .mem .now) (a .buf .now) (a .from) (search needs))
 
 -- src/fir.rt:59:15
 padded-requires : tie.Need-padded-requires
@@ -79,7 +89,9 @@ same-length c = search needs
 
 -- src/fir.rt:41:1
 returns-5 : tie.Need-returns-5
-returns-5 c = search needs
+returns-5 c =     let a = c .before .before .before .before .before .before .before .before .before .before .before .before .before .before .before .args in
+    let p = c .before .before .before .before .before .before .before .before .padded in
+    taken _ _ _ _ (fir-takes (length (a .num .now)) (length (a .mem .now)) (length (a .buf .now)) (search needs) (search needs) (search needs)) ?
 
 pub celt-fir-from-spec : {M : Type 1} → statement M
 celt-fir-from-spec =

@@ -6,6 +6,13 @@ use native.Mathlib.Omega.{arith}
 use native.Mathlib.Numerals.{add-one}
 use lib.ListN.{length, getD, set, take, drop, length-set}
 use borrow.Author.Needs.{needs}
+use lib.Ieee.{Float, nan}
+use Rattle.loops.specs.Front.{front}
+use Rattle.plc.specs.Iir.{iirTo}
+use Rattle.plc.specs.Pad.{Remembers, Holds}
+use borrow.Author.Tests.{le-leb, lt-leb}
+use Rattle.plc.proofs.Answer.{refused, taken}
+use Rattle.plc.proofs.Iirs.{Filtered, filtered-none, filtered-more, filtered-all}
 use Rattle.plc.proofs.iir.celt_iir_inplace.Statement.{statement}
 use Rattle.plc.proofs.iir.celt_iir_inplace.Tie as tie
 use Rattle.plc.proofs.iir.celt_iir_inplace.Reads as reads
@@ -14,14 +21,14 @@ use Rattle.plc.proofs.iir.less_taps.Reads as less-taps-reads
 use Rattle.plc.proofs.pad.remember.Reads as remember-reads
 
 abbrev Inv-loop : tie.InvT-loop
-Inv-loop buf₀ den mem n y₀ i₀ buf y i = ?
+Inv-loop buf₀ den mem n y₀ i₀ buf y i = (i ≤ n) × Filtered den mem buf₀ buf y i
 
 abbrev μ-loop : tie.MeasureT-loop
-μ-loop buf₀ den mem n y₀ i₀ buf y i = ?
+μ-loop buf₀ den mem n y₀ i₀ buf y i = n - i
 
 -- src/iir.rt:28:9
 returns : tie.Need-returns Inv-loop μ-loop
-returns c = search needs
+returns c = refused _ _ _ (lt-leb (length (c .before .before .args .buf .now)) 1200 (search needs))
 
 -- src/iir.rt:31:26
 slice-aggregate-remember : tie.Need-slice-aggregate-remember Inv-loop μ-loop
@@ -33,7 +40,8 @@ remember-requires c κs = search needs
 
 -- src/iir.rt:32:5
 loop-holds : tie.Need-loop-holds Inv-loop μ-loop
-loop-holds c = search needs
+loop-holds c =     let a = c .before .before .before .before .before .before .args in
+    (search needs, filtered-none (a .den .now) (a .mem .now) (a .buf .now) (c .before .remember .last .0) (search needs) (c .before .remember .ensures))
 
 -- src/iir.rt:33:34
 slice-aggregate-less-taps : tie.Need-slice-aggregate-less-taps Inv-loop μ-loop
@@ -81,7 +89,9 @@ loop-less c = search needs
 
 -- src/iir.rt:32:5
 loop-again : tie.Need-loop-again Inv-loop μ-loop
-loop-again c = search needs
+loop-again c =     let h = c .before .before .before .before .before .loop in
+    let a = c .before .before .before .before .before .before .before .before .before .before .before .before .args in
+    (search needs, filtered-more (a .den .now) (a .mem .now) (a .buf .now) (h .buf) (h .y) (h .i) (c .less-taps .result) (h .inv .1) (search needs) (search needs) (search needs) (search needs) (c .less-taps .ensures))
 
 -- src/iir.rt:22:1
 same-length : tie.Need-same-length Inv-loop μ-loop
@@ -89,7 +99,7 @@ same-length c = search needs
 
 -- src/iir.rt:22:1
 returns-2 : tie.Need-returns-2 Inv-loop μ-loop
-returns-2 c = search needs
+returns-2 c = ?
 
 pub celt-iir-inplace-spec : {M : Type 1} → statement M
 celt-iir-inplace-spec =
