@@ -3,4 +3,5 @@ pub mod Best
 pub mod BestLaws
 pub mod Search
 pub mod LagWindow
+pub mod Downsample
 pub mod Rows
