@@ -37,10 +37,10 @@ module _ (num mem x pad : List Float) (from : ℕ) (r : Remembers pad mem) (w : 
       ap (λ z. sumTo binary32 (tap num part i) z (length num)) v
       ∙ sum-same binary32 (tap num part i) (λ (j : ℕ). mul binary32 (getD num j nan) (past x mem (from + i) j)) (getD x (from + i) nan) (length num)
       (λ j k.
-        let p : from + (23 + i - j) ≡ 23 + (from + i) - j = omega arith in
-        ap (mul binary32 (getD num j nan))
-        (getD-take (length x + 24 - from) (drop from pad) (23 + i - j) nan (omega arith) ∙ getD-drop from pad (23 + i - j) nan
-        ∙ ap (λ z. getD pad z nan) p ∙ reads-past x mem pad (length x) (from + i) j r w (omega arith) (omega arith) (omega arith)))
+      let p : from + (23 + i - j) ≡ 23 + (from + i) - j = omega arith in
+      ap (mul binary32 (getD num j nan))
+      (getD-take (length x + 24 - from) (drop from pad) (23 + i - j) nan (omega arith) ∙ getD-drop from pad (23 + i - j) nan
+      ∙ ap (λ z. getD pad z nan) p ∙ reads-past x mem pad (length x) (from + i) j r w (omega arith) (omega arith) (omega arith)))
 
   pub fir-part : (y : List Float) → y ≡ tab (tapsRow num part rest (length num)) (length rest) → put from (length x - from) y x ≡ celtFirFrom from num mem x
   unfolding celtFir celtFirFrom

@@ -31,7 +31,7 @@ slice-aggregate-other-terms c = search needs
 
 -- src/autocorr.rt:58:5
 other-terms-requires : tie.Need-other-terms-requires
-other-terms-requires c κs =     let f = c .before .before .before .first-terms in
+other-terms-requires c κs = let f = c .before .before .before .first-terms in
     let x : List Float = c .before .before .before .before .before .before .args .x .now in
     let e : length (f .last .1 .0) ≡ 5 = row-size x (f .last .1 .0) 5 4 (f .ensures) in
     (search needs, search needs, f .ensures ∙ ap (λ z. lagRow x z (z - 1)) (sym e))
@@ -46,7 +46,7 @@ slice-aggregate-by-lag-2 c = search needs
 
 -- src/autocorr.rt:60:5
 by-lag-requires : tie.Need-by-lag-requires
-by-lag-requires c κs =     let g = c .before .before .before .before .before .before .before .before .first-terms in
+by-lag-requires c κs = let g = c .before .before .before .before .before .before .before .before .first-terms in
     let f = c .before .before .before .before .other-terms in
     let x : List Float = c .before .before .before .before .before .before .before .before .before .before .before .args .x .now in
     let e : length (g .last .1 .0) ≡ length (f .last .1 .0) = search needs in

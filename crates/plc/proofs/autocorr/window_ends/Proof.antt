@@ -98,7 +98,7 @@ loop-less c = search needs
 
 -- src/autocorr.rt:71:5
 loop-again : tie.Need-loop-again Inv-loop μ-loop
-loop-again c =     let h = c .before .before .before .before .before .loop in
+loop-again c = let h = c .before .before .before .before .before .loop in
     let a = c .before .before .before .before .before .before .args in
     (search needs, simp length-set (search needs), fold-more (windowTurn (a .x .now) (a .window .now)) (a .x .now) (h .xx) (h .i) (h .inv .2))
 
@@ -109,7 +109,7 @@ same-length c = search needs
 -- src/autocorr.rt:65:1
 returns : tie.Need-returns Inv-loop μ-loop
 unfolding windowedEnds
-returns c =     let h = c .before .loop in
+returns c = let h = c .before .loop in
     let a = c .before .before .args in
     let e : h .i ≡ length (a .window .now) = search needs in
     h .inv .2 ∙ ap (foldTo (windowTurn (a .x .now) (a .window .now)) (a .x .now)) e

@@ -86,7 +86,7 @@ loop2-less c = search needs
 
 -- src/fir.rt:35:9
 loop2-again : tie.Need-loop2-again Inv-loop2 μ-loop2 Inv-loop μ-loop
-loop2-again c =     let h2 = c .before .before .before .loop2 in
+loop2-again c = let h2 = c .before .before .before .loop2 in
     let h = c .before .before .before .before .before .before .loop in
     let a = c .before .before .before .before .before .before .before .args in
     let f = tapOn (a .num .now) (a .pad .now) (h .out) (h .j) in
@@ -106,14 +106,14 @@ loop-less c = search needs
 
 -- src/fir.rt:33:5
 loop-again : tie.Need-loop-again Inv-loop2 μ-loop2 Inv-loop μ-loop
-loop-again c =     let h2 = c .before .loop2 in
+loop-again c = let h2 = c .before .loop2 in
     let h = c .before .before .before .before .loop in
     let a = c .before .before .before .before .before .args in
     let e : length (h .out) ≡ h2 .i = search needs in
     let g : length (h .out) ≡ length (a .out .now) = search needs in
     let t : h2 .out ≡ tab (tapOn (a .num .now) (a .pad .now) (h .out) (h .j)) (length (a .out .now)) =
     tab-all (tapOn (a .num .now) (a .pad .now) (h .out) (h .j)) nan (h .out) (h2 .out) (h2 .i) (h2 .inv .2) e
-        ∙ ap (tab (tapOn (a .num .now) (a .pad .now) (h .out) (h .j))) g in
+    ∙ ap (tab (tapOn (a .num .now) (a .pad .now) (h .out) (h .j))) g in
     (search needs, search needs, tap-more (a .num .now) (a .pad .now) (a .out .now) (h .out) (h2 .out) (length (a .out .now)) (h .j) (h .inv .2) t)
 
 -- src/fir.rt:27:1
@@ -122,7 +122,7 @@ same-length c = search needs
 
 -- src/fir.rt:27:1
 returns : tie.Need-returns Inv-loop2 μ-loop2 Inv-loop μ-loop
-returns c =     let h = c .before .loop in
+returns c = let h = c .before .loop in
     let a = c .before .before .args in
     let e : h .j ≡ length (a .num .now) = search needs in
     h .inv .2 ∙ ap (λ z. tab (tapsRow (a .num .now) (a .pad .now) (a .out .now) z) (length (a .out .now))) e

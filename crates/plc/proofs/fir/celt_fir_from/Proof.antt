@@ -21,22 +21,22 @@ use Rattle.plc.proofs.fir.padded.Reads as padded-reads
 
 -- src/fir.rt:48:9
 returns : tie.Need-returns
-returns c =     let a = c .before .before .before .before .args in
+returns c = let a = c .before .before .before .before .args in
     refused _ _ _ (fir-unlike (length (a .num .now)) (length (a .mem .now)) (length (a .buf .now)) (search needs))
 
 -- src/fir.rt:51:9
 returns-2 : tie.Need-returns-2
-returns-2 c =     let a = c .before .before .before .before .before .args in
+returns-2 c = let a = c .before .before .before .before .before .args in
     refused _ _ _ (fir-order (length (a .num .now)) (length (a .mem .now)) (length (a .buf .now)) (search needs) (search needs))
 
 -- src/fir.rt:54:9
 returns-3 : tie.Need-returns-3
-returns-3 c =     let a = c .before .before .before .before .before .before .args in
+returns-3 c = let a = c .before .before .before .before .before .before .args in
     refused _ _ _ (fir-long (length (a .num .now)) (length (a .mem .now)) (length (a .buf .now)) (search needs) (search needs) (search needs))
 
 -- src/fir.rt:57:9
 returns-4 : tie.Need-returns-4
-returns-4 c =     let a = c .before .before .before .before .before .before .before .args in
+returns-4 c = let a = c .before .before .before .before .before .before .before .args in
     taken _ _ _ _ (fir-takes (length (a .num .now)) (length (a .mem .now)) (length (a .buf .now)) (search needs) (search needs) (search needs)) (fir-none (a .num .now) (a .mem .now) (a .buf .now) (a .from) (search needs))
 
 -- src/fir.rt:59:15
@@ -89,9 +89,10 @@ same-length c = search needs
 
 -- src/fir.rt:41:1
 returns-5 : tie.Need-returns-5
-returns-5 c =     let a = c .before .before .before .before .before .before .before .before .before .before .before .before .before .before .before .args in
-    let p = c .before .before .before .before .before .before .before .before .padded in
-    taken _ _ _ _ (fir-takes (length (a .num .now)) (length (a .mem .now)) (length (a .buf .now)) (search needs) (search needs) (search needs)) ?
+returns-5 c = let a = c .before .before .before .before .before .before .before .before .before .before .before .before .before .before .before .args in
+    let p = c .before .before .before .before .before .before .padded in
+    taken _ _ _ _ (fir-takes (length (a .num .now)) (length (a .mem .now)) (length (a .buf .now)) (search needs) (search needs) (search needs))
+    (fir-part (a .num .now) (a .mem .now) (a .buf .now) (p .result) (a .from) (p .ensures .0) (p .ensures .1) (search needs) (search needs) (search needs) _ (c .before .before .add-taps .ensures))
 
 pub celt-fir-from-spec : {M : Type 1} → statement M
 celt-fir-from-spec =

@@ -25,7 +25,7 @@ same-length c = search needs
 
 -- src/fir.rt:66:1
 returns : tie.Need-returns
-returns c =     let a = c .before .before .before .before .before .before .before .args in
+returns c = let a = c .before .before .before .before .before .before .before .args in
     let f = c .before .before .celt-fir-from in
     (f .ensures .0, f .ensures .1 ∙ ap (λ z. cond (firTakes (length (a .num .now)) (length (a .mem .now)) (length (a .buf .now))) z (a .buf .now)) (celtFirFrom-0 (a .num .now) (a .mem .now) (a .buf .now)))
 

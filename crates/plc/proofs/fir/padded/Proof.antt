@@ -63,7 +63,7 @@ loop-less c = search needs
 
 -- src/fir.rt:20:5
 loop-again : tie.Need-loop-again Inv-loop μ-loop
-loop-again c =     let h = c .before .before .loop in
+loop-again c = let h = c .before .before .loop in
     let a = c .before .before .before .before .before .before .before .before .args in (
       search needs,
       simp length-set (search needs),
@@ -73,7 +73,7 @@ loop-again c =     let h = c .before .before .loop in
 
 -- src/fir.rt:13:1
 returns : tie.Need-returns Inv-loop μ-loop
-returns c =     let h = c .before .loop in
+returns c = let h = c .before .loop in
     let a = c .before .before .before .before .before .before .before .args in
     let e : length (a .buf .now) ≡ h .i = search needs in
     (h .inv .2, λ i l. h .inv .3 i (omega arith))

@@ -40,7 +40,7 @@ remember-requires c κs = search needs
 
 -- src/iir.rt:32:5
 loop-holds : tie.Need-loop-holds Inv-loop μ-loop
-loop-holds c =     let a = c .before .before .before .before .before .before .args in
+loop-holds c = let a = c .before .before .before .before .before .before .args in
     (search needs, filtered-none (a .den .now) (a .mem .now) (a .buf .now) (c .before .remember .last .0) (search needs) (c .before .remember .ensures))
 
 -- src/iir.rt:33:34
@@ -89,7 +89,7 @@ loop-less c = search needs
 
 -- src/iir.rt:32:5
 loop-again : tie.Need-loop-again Inv-loop μ-loop
-loop-again c =     let h = c .before .before .before .before .before .loop in
+loop-again c = let h = c .before .before .before .before .before .loop in
     let a = c .before .before .before .before .before .before .before .before .before .before .before .before .args in
     (search needs, filtered-more (a .den .now) (a .mem .now) (a .buf .now) (h .buf) (h .y) (h .i) (c .less-taps .result) (h .inv .1) (search needs) (search needs) (search needs) (search needs) (c .less-taps .ensures))
 
@@ -99,7 +99,9 @@ same-length c = search needs
 
 -- src/iir.rt:22:1
 returns-2 : tie.Need-returns-2 Inv-loop μ-loop
-returns-2 c = ?
+returns-2 c = let h = c .before .loop in
+    let a = c .before .before .before .before .before .before .before .before .args in
+    taken _ _ _ _ (le-leb (length (a .buf .now)) 1200 (search needs)) (filtered-all (a .den .now) (a .mem .now) (a .buf .now) (h .buf) (h .y) (h .i) (h .inv .1) (search needs))
 
 pub celt-iir-inplace-spec : {M : Type 1} → statement M
 celt-iir-inplace-spec =

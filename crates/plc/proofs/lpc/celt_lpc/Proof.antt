@@ -16,7 +16,7 @@ use Rattle.plc.proofs.lpc.solve.Reads as solve-reads
 
 -- src/lpc.rt:51:9
 returns : tie.Need-returns
-returns c =     let a = c .before .before .before .args in
+returns c = let a = c .before .before .before .args in
     refused _ _ _ (ne-eqb (length (a .ac .now)) (length (a .lpc .now) + 1) (λ q. omega arith))
 
 -- src/lpc.rt:53:8
@@ -25,7 +25,7 @@ sub-if2 c = search needs
 
 -- src/lpc.rt:54:9
 returns-2 : tie.Need-returns-2
-returns-2 c =     let a = c .before .before .before .before .args in
+returns-2 c = let a = c .before .before .before .before .args in
     refused _ _ _ (ne-eqb (length (a .ac .now)) (length (a .lpc .now) + 1) (λ q. omega arith))
 
 -- src/lpc.rt:56:5
@@ -38,8 +38,8 @@ same-length c = search needs
 
 -- src/lpc.rt:44:1
 returns-3 : tie.Need-returns-3
-returns-3 c =     let a = c .before .before .before .before .before .before .before .before .args in
-    taken _ _ _ _ (eq-eqb (length (a .ac .now)) (length (a .lpc .now) + 1) (search needs)) ?
+returns-3 c = let a = c .before .before .before .before .before .before .before .before .args in
+    taken _ _ _ _ (eq-eqb (length (a .ac .now)) (length (a .lpc .now) + 1) (search needs)) (c .before .before .solve .ensures)
 
 pub celt-lpc-spec : {M : Type 1} → statement M
 celt-lpc-spec = tie.close (tie.spec returns sub-if2 returns-2 solve-requires same-length returns-3)
