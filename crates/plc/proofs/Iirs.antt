@@ -1,17 +1,20 @@
 -- the all-pole filter, output after output, from a padded buffer
 use mathlib.Core.Path.{_≡_, refl, ap, _∙_, sym}
+use mathlib.Core.Bool.{true, false, _&&_}
 use mathlib.Core.List.{List, [], _∷_, _++_}
 use Prim.Native.Nat.{ℕ, _+_, _-_, _≤_, _<_}
 use native.Mathlib.Omega.{arith}
 use native.Mathlib.Numerals.{add-one}
+use lib.Dec.{leb}
 use lib.ListN.{length, getD, set, length-set, List·getD-append}
 use lib.Seq.{getD-at}
 use lib.Ieee.{Float, nan, binary32, sub, mul}
+use borrow.Author.Tests.{eq-eqb, ne-eqb, le-leb, lt-leb}
 use Rattle.loops.specs.Fold.{foldTo, fold-same}
 use Rattle.loops.specs.Front.{front, front-read, front-write, front-all}
 use Rattle.plc.specs.Past.{past}
 use Rattle.plc.specs.Pad.{Remembers, Holds, tap, tapsTaken}
-use Rattle.plc.specs.Iir.{iirAt, iirTo, celtIir, length-iirTo}
+use Rattle.plc.specs.Iir.{iirAt, iirTo, celtIir, iirPairTakes, length-iirTo}
 use Rattle.plc.proofs.Taps.{reads-past, remembers-keep, holds-more}
 
 -- the first i samples are filtered, in buf and behind the memory in y
@@ -32,7 +35,7 @@ module _ (den mem x : List Float) where
       → v ≡ getD x i nan → s ≡ tapsTaken den y i v 24 → s ≡ iirAt den mem x (iirTo den mem x i) i
   unfolding iirAt
   iir-step y i v s r w d m ev es =
-      let t = λ (s : Float) (j : ℕ). sub binary32 s (mul binary32 (getD den j nan) (past (iirTo den mem x i) mem i j)) in
+      let t : Float → ℕ → Float = λ s j. sub binary32 s (mul binary32 (getD den j nan) (past (iirTo den mem x i) mem i j)) in
       es
       ∙ fold-same (λ (s : Float) (j : ℕ). sub binary32 s (tap den y i j)) t v 24
       (λ z j h. ap (λ u. sub binary32 z (mul binary32 (getD den j nan) u)) (reads-past (iirTo den mem x i) mem y i i j r w (omega arith) (omega arith) (omega arith)))
@@ -60,3 +63,14 @@ module _ (den mem x : List Float) where
   unfolding celtIir
   filtered-all buf y i f h =
       front-all nan x buf (iirTo den mem x i) i (f .4) (length-iirTo den mem x i) (omega arith) ∙ ap (iirTo den mem x) (sym h)
+
+-- the tests of two lengths, in their order
+module _ (x z : ℕ) where
+  pub pair-unlike : (x ≡ z → ⊥) → iirPairTakes x z ≡ false
+  pair-unlike h = ap (λ b. b && leb x 1200) (ne-eqb x z h)
+
+  pub pair-long : x ≡ z → 1200 < x → iirPairTakes x z ≡ false
+  pair-long e h = ap (λ b. b && leb x 1200) (eq-eqb x z e) ∙ lt-leb x 1200 h
+
+  pub pair-takes : x ≡ z → x ≤ 1200 → iirPairTakes x z ≡ true
+  pair-takes e h = ap (λ b. b && leb x 1200) (eq-eqb x z e) ∙ le-leb x 1200 h

@@ -99,7 +99,9 @@ same-length c = search needs
 
 -- src/iir.rt:22:1
 returns-2 : tie.Need-returns-2 Inv-loop μ-loop
-returns-2 c = ?
+returns-2 c = let h = c .before .loop in
+    let a = c .before .before .before .before .before .before .before .before .args in
+    taken _ _ _ _ (le-leb (length (a .buf .now)) 1200 (search needs)) (filtered-all (a .den .now) (a .mem .now) (a .buf .now) (h .buf) (h .y) (h .i) (h .inv .1) (search needs))
 
 pub celt-iir-inplace-spec : {M : Type 1} → statement M
 celt-iir-inplace-spec =

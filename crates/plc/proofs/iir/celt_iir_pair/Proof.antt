@@ -6,6 +6,12 @@ use native.Mathlib.Omega.{arith}
 use native.Mathlib.Numerals.{add-one}
 use lib.ListN.{length, getD, set, take, drop, length-set}
 use borrow.Author.Needs.{needs}
+use lib.Ieee.{Float, nan}
+use mathlib.Core.Bool.{true, false}
+use Rattle.plc.specs.Iir.{iirPairTakes}
+use Rattle.loops.specs.Pick.{pick-true, pick-false}
+use Rattle.plc.proofs.Iirs.{pair-unlike, pair-long, pair-takes}
+use Rattle.plc.proofs.Iirs.{Filtered, filtered-none, filtered-more, filtered-all}
 use Rattle.plc.proofs.iir.celt_iir_pair.Statement.{statement}
 use Rattle.plc.proofs.iir.celt_iir_pair.Tie as tie
 use Rattle.plc.proofs.iir.celt_iir_pair.Reads as reads
@@ -14,18 +20,22 @@ use Rattle.plc.proofs.iir.less_taps.Reads as less-taps-reads
 use Rattle.plc.proofs.pad.remember.Reads as remember-reads
 
 abbrev Inv-loop : tie.InvT-loop
-Inv-loop a₀ b₀ den-a den-b mem-a mem-b n y₀ z₀ i₀ a b y z i = ?
+Inv-loop a₀ b₀ den-a den-b mem-a mem-b n y₀ z₀ i₀ a b y z i = (i ≤ n) × Filtered den-a mem-a a₀ a y i × Filtered den-b mem-b b₀ b z i
 
 abbrev μ-loop : tie.MeasureT-loop
-μ-loop a₀ b₀ den-a den-b mem-a mem-b n y₀ z₀ i₀ a b y z i = ?
+μ-loop a₀ b₀ den-a den-b mem-a mem-b n y₀ z₀ i₀ a b y z i = n - i
 
 -- src/iir.rt:55:9
 returns : tie.Need-returns Inv-loop μ-loop
-returns c = search needs
+returns c = let a = c .before .before .before .args in
+    let e : iirPairTakes (length (a .a .now)) (length (a .b .now)) ≡ false = pair-unlike (length (a .a .now)) (length (a .b .now)) (search needs) in
+    (sym e, sym (pick-false _ _ _ e), sym (pick-false _ _ _ e))
 
 -- src/iir.rt:58:9
 returns-2 : tie.Need-returns-2 Inv-loop μ-loop
-returns-2 c = search needs
+returns-2 c = let a = c .before .before .before .before .args in
+    let e : iirPairTakes (length (a .a .now)) (length (a .b .now)) ≡ false = pair-long (length (a .a .now)) (length (a .b .now)) (search needs) (search needs) in
+    (sym e, sym (pick-false _ _ _ e), sym (pick-false _ _ _ e))
 
 -- src/iir.rt:62:26
 slice-aggregate-remember : tie.Need-slice-aggregate-remember Inv-loop μ-loop
@@ -45,7 +55,13 @@ remember-requires-2 c κs = search needs
 
 -- src/iir.rt:64:5
 loop-holds : tie.Need-loop-holds Inv-loop μ-loop
-loop-holds c = search needs
+loop-holds c = let a = c .before .before .before .before .before .before .before .before .before .before .before .before .args in
+    let r = c .before .before .before .before .before .remember in
+    let q = c .before .remember2 in (
+      search needs,
+      filtered-none (a .den-a .now) (a .mem-a .now) (a .a .now) (r .last .0) (search needs) (r .ensures),
+      filtered-none (a .den-b .now) (a .mem-b .now) (a .b .now) (q .last .0) (search needs) (q .ensures),
+    )
 
 -- src/iir.rt:65:38
 slice-aggregate-less-taps : tie.Need-slice-aggregate-less-taps Inv-loop μ-loop
@@ -129,7 +145,14 @@ loop-less c = search needs
 
 -- src/iir.rt:64:5
 loop-again : tie.Need-loop-again Inv-loop μ-loop
-loop-again c = search needs
+loop-again c = let h = c .before .before .before .before .before .before .before .before .before .loop in
+    let a = c .before .before .before .before .before .before .before .before .before .before .before .before .before .before .before .before .before .before .before .before .before .before .args in
+    let s = c .before .before .before .before .less-taps in
+    let t = c .less-taps2 in (
+      search needs,
+      filtered-more (a .den-a .now) (a .mem-a .now) (a .a .now) (h .a) (h .y) (h .i) (s .result) (h .inv .1) (search needs) (search needs) (search needs) (search needs) (s .ensures),
+      filtered-more (a .den-b .now) (a .mem-b .now) (a .b .now) (h .b) (h .z) (h .i) (t .result) (h .inv .2) (search needs) (search needs) (search needs) (search needs) (t .ensures),
+    )
 
 -- src/iir.rt:41:1
 same-length : tie.Need-same-length Inv-loop μ-loop
@@ -141,7 +164,13 @@ same-length-2 c = search needs
 
 -- src/iir.rt:41:1
 returns-3 : tie.Need-returns-3 Inv-loop μ-loop
-returns-3 c = search needs
+returns-3 c = let h = c .before .loop in
+    let a = c .before .before .before .before .before .before .before .before .before .before .before .before .before .before .args in
+    let e : iirPairTakes (length (a .a .now)) (length (a .b .now)) ≡ true = pair-takes (length (a .a .now)) (length (a .b .now)) (search needs) (search needs) in (
+      sym e,
+      filtered-all (a .den-a .now) (a .mem-a .now) (a .a .now) (h .a) (h .y) (h .i) (h .inv .1) (search needs) ∙ sym (pick-true _ _ _ e),
+      filtered-all (a .den-b .now) (a .mem-b .now) (a .b .now) (h .b) (h .z) (h .i) (h .inv .2) (search needs) ∙ sym (pick-true _ _ _ e),
+    )
 
 pub celt-iir-pair-spec : {M : Type 1} → statement M
 celt-iir-pair-spec =
