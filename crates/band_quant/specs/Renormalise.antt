@@ -20,9 +20,12 @@ energyTo xs n = sumTo binary64 (squareAt xs) (ofBits binary64 0x3cd2_03af_9ee7_5
 unfoldable pub factorOf : List Float → Float → Float
 factorOf xs gain = div binary32 gain (sqrtOf (narrow (energyTo xs (length xs))))
 
+abbrev pub scaled : Float → Float → Float
+scaled g v = mul binary32 v g
+
 unfoldable pub renormaliseVector : List Float → Float → List Float
-renormaliseVector xs gain = map (λ (v : Float). mul binary32 v (factorOf xs gain)) xs
+renormaliseVector xs gain = map (scaled (factorOf xs gain)) xs
 
 pub length-renormaliseVector : (xs : List Float) (gain : Float) → length (renormaliseVector xs gain) ≡ length xs
 unfolding renormaliseVector
-length-renormaliseVector xs gain = length-map xs (λ (v : Float). mul binary32 v (factorOf xs gain))
+length-renormaliseVector xs gain = length-map xs (scaled (factorOf xs gain))
