@@ -2,4 +2,5 @@
 pub mod Draw
 pub mod Noise
 pub mod Renormalise
+pub mod Zeros
 pub mod Marked
