@@ -9,7 +9,10 @@ ghost use Rattle.band_quant.specs.Renormalise.{renormaliseVector};
 pub fn celt_lcg_rand(seed: u32) -> u32
     ensures { λ r. ⌜ r ≡ draw seed ⌝ }
 {
-    std::num::wrapping_add_u32(float_bits::words::wrapping_mul_u32(seed, 1_664_525), 1_013_904_223)
+    std::num::wrapping_add_u32(
+        float_bits::words::wrapping_mul_u32(seed, 1_664_525),
+        1_013_904_223,
+    )
 }
 
 // Fills x with the values of successive draws and returns the last seed.

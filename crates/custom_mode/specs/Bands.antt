@@ -10,16 +10,13 @@ use Rattle.band_quant.specs.Draw.{draws, draws-none, draws-add}
 use Rattle.custom_mode.specs.Mode.{edges, edge}
 
 -- a test at every number below n
-pub below : (ℕ → Bool) → ℕ → Bool
+unfoldable pub below : (ℕ → Bool) → ℕ → Bool
 below p zero = true
 below p (suc n) = p n && below p n
 
 pub and-true : (a b : Bool) → (a && b) ≡ true → (a ≡ true) × (b ≡ true)
 and-true true b e = (refl, e)
-and-true false b e = let z : _≡_ {A = Bool} false true = e in absurd-bool z
-  where
-    absurd-bool : false ≡ true → (false ≡ true) × (b ≡ true)
-    absurd-bool e = cc
+and-true false b e = (e, (cc))
 
 pub below-at : (p : ℕ → Bool) (n i : ℕ) → below p n ≡ true → i < n → p i ≡ true
 unfolding below

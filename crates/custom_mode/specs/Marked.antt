@@ -1,7 +1,7 @@
 -- The marked gains, and the rates' factors.
 use mathlib.Core.Path.{_≡_, refl}
 use Prim.Native.Nat.{ℕ}
-use lib.Ieee.{Float, nan, binary32, ofBits, neg, add, sub, mul, div, le, ofInt}
+use lib.Ieee.{Float, nan, binary32, ofBits, neg, add, sub, mul, div, le, lt, eq, isNan, ofInt}
 use Rattle.float_bits.specs.Extremes.{minOf}
 use Rattle.float_bits.specs.Formats.{narrow}
 use Rattle.custom_mode.specs.Rate.{factorNumber, resamplingFactor}
@@ -18,7 +18,7 @@ pub gains :
     × (gainOf (ofBits binary32 0x4200_0000) ≡ ofBits binary32 0x4f80_0000)
     × (gainOf nan ≡ ofBits binary32 0x4f80_0000)
     × (gainOf (neg (ofBits binary32 0x4316_0000)) ≡ ofBits binary32 0)
-unfolding minOf bandGain gainAt series power powerBits steps floorFrom narrow ofBits ofInt neg add sub mul div le
+unfolding minOf bandGain gainAt series power powerBits steps floorFrom narrow ofBits ofInt neg add sub mul div le lt eq isNan
 gains = (refl, refl, refl, refl)
 
 pub factors :

@@ -27,7 +27,11 @@ fn steps_of(x: f32) -> u64
     }
     let v = -w;
     let t = std::num::truncating_f64_to_u64(v);
-    if (t as f64) < v { 38_399 - t } else { 38_400 - t }
+    if (t as f64) < v {
+        38_399 - t
+    } else {
+        38_400 - t
+    }
 }
 
 // q - 38,400

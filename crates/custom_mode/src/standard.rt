@@ -3,20 +3,67 @@ ghost use mathlib.Core.Path.{_≡_};
 ghost use Rattle.custom_mode.specs.Mode.{edge, mean, combGains, preemph};
 
 pub const SHORT_BLOCK: usize = 120;
+
 pub const OVERLAP: usize = 120;
+
 pub const BANDS: usize = 21;
 
 // Limits of the post-filter's period.
 pub const MIN_PERIOD: u32 = 15;
+
 pub const MAX_PERIOD: u32 = 1_022;
 
 const EDGES: [usize; 22] = [
-    0, 1, 2, 3, 4, 5, 6, 7, 8, 10, 12, 14, 16, 20, 24, 28, 34, 40, 48, 60, 78, 100,
+    0,
+    1,
+    2,
+    3,
+    4,
+    5,
+    6,
+    7,
+    8,
+    10,
+    12,
+    14,
+    16,
+    20,
+    24,
+    28,
+    34,
+    40,
+    48,
+    60,
+    78,
+    100,
 ];
 
 const E_MEANS: [f32; 25] = [
-    6.4375, 6.25, 5.75, 5.3125, 5.0625, 4.8125, 4.5, 4.375, 4.875, 4.6875, 4.5625, 4.4375, 4.875,
-    4.625, 4.3125, 4.5, 4.375, 4.625, 4.75, 4.4375, 3.75, 3.75, 3.75, 3.75, 3.75,
+    6.4375,
+    6.25,
+    5.75,
+    5.3125,
+    5.0625,
+    4.8125,
+    4.5,
+    4.375,
+    4.875,
+    4.6875,
+    4.5625,
+    4.4375,
+    4.875,
+    4.625,
+    4.3125,
+    4.5,
+    4.375,
+    4.625,
+    4.75,
+    4.4375,
+    3.75,
+    3.75,
+    3.75,
+    3.75,
+    3.75,
 ];
 
 // The edge numbered i, in bins of the shortest block; 100 past the last.
