@@ -1,0 +1,3 @@
+// The window and the inverse transform.
+pub mod window;
+pub mod imdct;
