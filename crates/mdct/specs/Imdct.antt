@@ -2,7 +2,7 @@
 use mathlib.Core.Path.{_≡_, refl}
 use mathlib.Core.List.{List}
 use mathlib.Core.Bool.{Bool, true, cond, _||_, _&&_}
-use Prim.Native.Nat.{ℕ, suc, _+_, _-_, _*_, _/_, _%_, _^_, _≤_}
+use Prim.Native.Nat.{ℕ, zero, suc, _+_, _-_, _*_, _/_, _%_, _^_, _≤_}
 use native.Mathlib.Omega.{arith}
 use lib.Dec.{eqb, leb}
 use lib.ListN.{length, getD}
@@ -44,10 +44,10 @@ frameSize n = eqb n (120 * 2 ^ 0) || eqb n (120 * 2 ^ 1) || eqb n (120 * 2 ^ 2) 
 
 pub frame-size : (lm : ℕ) → lm ≤ 3 → frameSize (120 * 2 ^ lm) ≡ true
 unfolding frameSize
-frame-size 0 h = refl
-frame-size 1 h = refl
-frame-size 2 h = refl
-frame-size 3 h = refl
+frame-size zero h = refl
+frame-size (suc zero) h = refl
+frame-size (suc (suc zero)) h = refl
+frame-size (suc (suc (suc zero))) h = refl
 frame-size (suc (suc (suc (suc lm)))) h = let z : ⊥ = omega arith in absurd z
 
 -- whether imdct_naive_f32 takes n inputs and room for m outputs
