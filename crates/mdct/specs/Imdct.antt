@@ -1,14 +1,16 @@
 -- The inverse transform as a sum of cosines: 2 n outputs from n inputs, n being 120 * 2 ^ lm.
 use mathlib.Core.Path.{_≡_, refl}
 use mathlib.Core.List.{List}
-use mathlib.Core.Bool.{Bool, true, cond, _||_, _&&_}
+use mathlib.Core.Bool.{Bool, true, false, cond, _||_, _&&_}
 use Prim.Native.Nat.{ℕ, zero, suc, _+_, _-_, _*_, _/_, _%_, _^_, _≤_}
 use native.Mathlib.Omega.{arith}
 use lib.Dec.{eqb, leb}
+use borrow.Author.Tests.{eq-eqb, ne-eqb}
 use lib.ListN.{length, getD}
 use lib.Ieee.{Float, nan, binary32, binary64, ofBits, mul, neg}
 use Rattle.loops.specs.Sum.{sumTo}
 use Rattle.loops.specs.Front.{tab, length-tab}
+use Rattle.loops.specs.Pick.{pick-true, pick-false}
 use Rattle.float_bits.specs.Formats.{narrow}
 use Rattle.cosine_table.specs.Cosines.{cosines}
 
@@ -54,6 +56,26 @@ frame-size (suc (suc (suc (suc lm)))) h = let z : ⊥ = omega arith in absurd z
 unfoldable pub imdctTakes : ℕ → ℕ → Bool
 imdctTakes n m = frameSize n && eqb m (2 * n)
 
+pub takes : (n m : ℕ) → frameSize n ≡ true → m ≡ 2 * n → imdctTakes n m ≡ true
+unfolding imdctTakes
+takes n m e h = simp (e, eq-eqb m (2 * n) h)
+
+pub takes-no-size : (n m : ℕ) → frameSize n ≡ false → imdctTakes n m ≡ false
+unfolding imdctTakes
+takes-no-size n m e = simp e
+
+pub takes-no-room : (n m : ℕ) → frameSize n ≡ true → (m ≡ 2 * n → ⊥) → imdctTakes n m ≡ false
+unfolding imdctTakes
+takes-no-room n m e h = simp (e, ne-eqb m (2 * n) h)
+
 -- what it leaves in out: the outputs, or out as it was
 unfoldable pub imdctLeaves : List Float → List Float → List Float
 imdctLeaves xs out = cond (imdctTakes (length xs) (length out)) (imdct (length xs) xs) out
+
+pub leaves-outputs : (xs out : List Float) → imdctTakes (length xs) (length out) ≡ true → imdctLeaves xs out ≡ imdct (length xs) xs
+unfolding imdctLeaves
+leaves-outputs xs out e = pick-true _ _ _ e
+
+pub leaves-out : (xs out : List Float) → imdctTakes (length xs) (length out) ≡ false → imdctLeaves xs out ≡ out
+unfolding imdctLeaves
+leaves-out xs out e = pick-false _ _ _ e

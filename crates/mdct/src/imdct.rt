@@ -1,6 +1,7 @@
 // The inverse transform as a direct sum, its cosines from a table.
 use cosine_table::cosines;
-use float_bits::formats::{f32_to_f64, f64_to_f32};
+use float_bits::formats::f32_to_f64;
+use float_bits::formats::f64_to_f32;
 ghost use mathlib.Core.Path.{_≡_};
 ghost use mathlib.Core.Bool.{true};
 ghost use Prim.Native.Nat.{_*_, _<_, _≤_};
@@ -57,7 +58,10 @@ fn outputs(c: &[f64; 1921], x: &[f32], out: &mut [f32])
 fn frame_size(n: usize) -> bool
     ensures { λ r. ⌜ r ≡ frameSize n ⌝ }
 {
-    n == 120 || n == 240 || n == 480 || n == 960
+    match n {
+        120 | 240 | 480 | 960 => true,
+        _ => false,
+    }
 }
 
 // Takes n inputs, n one of the four frame sizes, into 2 n outputs. Of any other lengths it returns false, and out stays as it was.

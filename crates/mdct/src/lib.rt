@@ -1,3 +1,3 @@
 // The window and the inverse transform.
-pub mod window;
 pub mod imdct;
+pub mod window;

@@ -6,6 +6,8 @@ use native.Mathlib.Omega.{arith}
 use native.Mathlib.Numerals.{add-one}
 use lib.ListN.{length, getD, set, take, drop, length-set}
 use borrow.Author.Needs.{needs}
+use lib.Ieee.{nan, neg}
+use Rattle.mdct.proofs.Quadrants.{first, second, third, fourth}
 use Rattle.mdct.proofs.imdct.cos_at.Statement.{statement}
 use Rattle.mdct.proofs.imdct.cos_at.Tie as tie
 use Rattle.mdct.proofs.imdct.cos_at.Reads as reads
@@ -53,19 +55,19 @@ element-copy-out-result-4 c = search needs
 
 -- src/imdct.rt:12:1
 returns : tie.Need-returns
-returns c = search needs
+returns c = let a = c .before .before in ap (λ z. getD z (a .args .j) nan) (a .pre .0) ∙ sym (first _ (search needs))
 
 -- src/imdct.rt:12:1
 returns-2 : tie.Need-returns-2
-returns-2 c = search needs
+returns-2 c = let a = c .before .before .before in ap (λ z. neg (getD z (3840 - a .args .j) nan)) (a .pre .0) ∙ sym (second _ (search needs) (search needs))
 
 -- src/imdct.rt:12:1
 returns-3 : tie.Need-returns-3
-returns-3 c = search needs
+returns-3 c = let a = c .before .before .before .before in ap (λ z. neg (getD z (a .args .j - 3840) nan)) (a .pre .0) ∙ sym (third _ (search needs) (search needs))
 
 -- src/imdct.rt:12:1
 returns-4 : tie.Need-returns-4
-returns-4 c = search needs
+returns-4 c = let a = c .before .before .before .before in ap (λ z. getD z (7680 - a .args .j) nan) (a .pre .0) ∙ sym (fourth _ (search needs))
 
 pub cos-at-spec : {M : Type 1} → statement M
 cos-at-spec =
