@@ -2,3 +2,4 @@
 pub mod Window
 pub mod WindowRules
 pub mod Imdct
+pub mod Circle
