@@ -1,0 +1,84 @@
+use mathlib.Core.Path.{_≡_, refl, ap, _∙_, sym}
+use mathlib.Core.List.{List, [], _∷_, _++_}
+use mathlib.Core.Logic.{⊎-elim}
+use Prim.Native.Nat.{ℕ, zero, suc, _+_, _*_, _/_, _%_, _≤_, _<_, _-_}
+use native.Mathlib.Omega.{arith}
+use native.Mathlib.Numerals.{add-one}
+use lib.ListN.{length, getD, set, take, drop, length-set}
+use borrow.Author.Needs.{needs}
+use Rattle.loops.specs.Front.{front, tab, tab-none, tab-more, tab-all}
+use Rattle.mdct.proofs.imdct.starts.Statement.{statement}
+use Rattle.mdct.proofs.imdct.starts.Tie as tie
+use Rattle.mdct.proofs.imdct.starts.Reads as reads
+use Rattle.mdct.proofs.imdct.starts.Lts as lts
+
+abbrev Inv-loop : tie.InvT-loop
+Inv-loop n t w r₀ j₀ r j = (j ≤ 8) × (length r ≡ 8) × (length r₀ ≡ 8) × (r ≡ front (tab (λ (j : ℕ). (t + j + n / 2) % (4 * n)) j) r₀ j)
+
+abbrev μ-loop : tie.MeasureT-loop
+μ-loop n t w r₀ j₀ r j = 8 - j
+
+-- src/imdct.rt:61:13
+mul-w : tie.Need-mul-w Inv-loop μ-loop
+mul-w c = search needs
+
+-- src/imdct.rt:63:5
+loop-holds : tie.Need-loop-holds Inv-loop μ-loop
+loop-holds c = (search needs, search needs, search needs, tab-none _ _)
+
+-- src/imdct.rt:64:17
+add-r : tie.Need-add-r Inv-loop μ-loop
+add-r c = search needs
+
+-- src/imdct.rt:64:17
+add-r-2 : tie.Need-add-r-2 Inv-loop μ-loop
+add-r-2 c = search needs
+
+-- src/imdct.rt:64:16
+rem-r : tie.Need-rem-r Inv-loop μ-loop
+rem-r c = search needs
+
+-- src/imdct.rt:64:9
+mul-r : tie.Need-mul-r Inv-loop μ-loop
+mul-r c = search needs
+
+-- src/imdct.rt:64:9
+array-write-r : tie.Need-array-write-r Inv-loop μ-loop
+array-write-r c = search needs
+
+-- src/imdct.rt:63:9
+add-j : tie.Need-add-j Inv-loop μ-loop
+add-j c = search needs
+
+-- src/imdct.rt:63:5
+loop-less : tie.Need-loop-less Inv-loop μ-loop
+loop-less c = search needs
+
+-- src/imdct.rt:63:5
+loop-again : tie.Need-loop-again Inv-loop μ-loop
+loop-again c = (search needs, simp length-set (search needs), search needs, tab-more _ 0 _ _ _ (c .before .loop .inv .3) _ refl (search needs))
+
+-- src/imdct.rt:57:1
+returns : tie.Need-returns Inv-loop μ-loop
+returns c =
+    let l = c .before .loop in
+    let e : 8 ≡ l .j = search needs in
+    tab-all _ 0 _ _ _ (l .inv .3) (l .inv .2 ∙ e) ∙ ap (tab _) (l .inv .2)
+
+pub starts-spec : {M : Type 1} → statement M
+starts-spec =
+    tie.close
+    (tie.spec
+    Inv-loop
+    μ-loop
+    mul-w
+    loop-holds
+    add-r
+    add-r-2
+    rem-r
+    mul-r
+    array-write-r
+    add-j
+    loop-less
+    loop-again
+    returns)

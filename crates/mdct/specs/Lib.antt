@@ -1,0 +1,5 @@
+-- The window and the inverse transform.
+pub mod Window
+pub mod WindowRules
+pub mod Imdct
+pub mod Circle

@@ -1,0 +1,156 @@
+// The inverse transform as a direct sum, its cosines from a table.
+use cosine_table::cosines;
+use float_bits::formats::f32_to_f64;
+use float_bits::formats::f64_to_f32;
+ghost use mathlib.Core.Path.{_≡_};
+ghost use mathlib.Core.Bool.{true};
+ghost use mathlib.Core.List.{_++_};
+ghost use Prim.Native.Nat.{_+_, _*_, _/_, _%_, _<_, _≤_};
+ghost use lib.ListN.{length, getD, take};
+ghost use lib.Ieee.{nan};
+ghost use Rattle.loops.specs.Front.{front, tab};
+ghost use Rattle.cosine_table.specs.Cosines.{cosines};
+ghost use Rattle.mdct.specs.Circle.{IsCircle};
+ghost use Rattle.mdct.specs.Imdct.{cosAt, frameSize, halfOf, imdct, imdctLeaves, imdctSum, imdctTakes};
+
+// The cosine of j parts of a circle of 7,680.
+fn cos_at(c: &[f64; 1921], j: usize) -> f64
+    requires { ⌜ now c ≡ cosines ⌝ }
+    requires { ⌜ j ≤ 7680 ⌝ }
+    ensures { λ r. ⌜ r ≡ cosAt j ⌝ }
+{
+    if j <= 1920 {
+        c[j]
+    } else if j <= 3840 {
+        -c[3840 - j]
+    } else if j <= 5760 {
+        -c[j - 3840]
+    } else {
+        c[7680 - j]
+    }
+}
+
+// The cosines of a circle of 4 n steps, each at half a step more than a whole one.
+fn circle(c: &[f64; 1921], n: usize) -> [f64; 3840]
+    requires { ⌜ now c ≡ cosines ⌝ }
+    requires { ⌜ frameSize n ≡ true ⌝ }
+    ensures { λ r. ⌜ IsCircle n r ⌝ }
+{
+    let s = 960 / n;
+    let m = 4 * n;
+    let mut r = [0.0f64; 3840];
+    for i in 0..m {
+        r[i] = cos_at(c, s * (2 * i + 1));
+    }
+    r
+}
+
+// i in a circle of w steps.
+fn wrapped(i: usize, w: usize) -> usize
+    requires { ⌜ i < 2 * w ⌝ }
+    ensures { λ r. ⌜ r ≡ i % w ⌝ }
+{
+    if i < w { i } else { i - w }
+}
+
+// Where on the circle the first cosine of each of eight outputs from t on stands.
+fn starts(n: usize, t: usize) -> [usize; 8]
+    requires { ⌜ (0 < n) × (n ≤ 960) × (t < 1920) ⌝ }
+    ensures { λ r. ⌜ r ≡ tab (λ j. (t + j + n / 2) % (4 * n)) 8 ⌝ }
+{
+    let w = 4 * n;
+    let mut r = [0usize; 8];
+    for j in 0..8 {
+        r[j] = (t + j + n / 2) % w;
+    }
+    r
+}
+
+// How far each of eight outputs from t on goes along the circle with each input.
+fn strides(n: usize, t: usize) -> [usize; 8]
+    requires { ⌜ (0 < n) × (n ≤ 960) × (t < 1920) ⌝ }
+    ensures { λ r. ⌜ r ≡ tab (λ j. (2 * (t + j) + 1 + n) % (4 * n)) 8 ⌝ }
+{
+    let w = 4 * n;
+    let mut r = [0usize; 8];
+    for j in 0..8 {
+        r[j] = (2 * (t + j) + 1 + n) % w;
+    }
+    r
+}
+
+// The sums of eight outputs from t on: eight sums side by side, each in the order of the inputs.
+fn eight(circle: &[f64; 3840], x: &[f32], t: usize) -> [f64; 8]
+    requires { ⌜ IsCircle (length (now x)) (now circle) ⌝ }
+    requires { ⌜ frameSize (length (now x)) ≡ true ⌝ }
+    requires { ⌜ t < 1920 ⌝ }
+    ensures { λ r. ⌜ r ≡ tab (λ j. imdctSum (length (now (x .entry))) (now (x .entry)) (t + j)) 8 ⌝ }
+{
+    let n = x.len();
+    let w = 4 * n;
+    let step = strides(n, t);
+    let mut at = starts(n, t);
+    let mut acc = [0.0f64; 8];
+    for k in 0..n {
+        let v = f32_to_f64(x[k]);
+        for j in 0..8 {
+            let i = at[j];
+            acc[j] = acc[j] + v * circle[i];
+            at[j] = wrapped(i + step[j], w);
+        }
+    }
+    acc
+}
+
+// Halves eight sums, rounded to f32, into out from t on.
+fn halves(sums: &[f64; 8], out: &mut [f32], t: usize)
+    requires { ⌜ t + 8 ≤ length (now out) ⌝ }
+    ensures { λ _. ⌜ now (out .exit) ≡ front (take t (now (out .entry)) ++ tab (λ j. halfOf (getD (now (sums .entry)) j nan)) 8) (now (out .entry)) (t + 8) ⌝ }
+{
+    for j in 0..8 {
+        out[t + j] = f64_to_f32(0.5 * sums[j]);
+    }
+}
+
+fn outputs(circle: &[f64; 3840], x: &[f32], out: &mut [f32])
+    requires { ⌜ IsCircle (length (now x)) (now circle) ⌝ }
+    requires { ⌜ frameSize (length (now x)) ≡ true ⌝ }
+    requires { ⌜ length (now out) ≡ 2 * length (now x) ⌝ }
+    ensures { λ _. ⌜ now (out .exit) ≡ imdct (length (now (x .entry))) (now (x .entry)) ⌝ }
+{
+    let m = out.len();
+    let mut t = 0;
+    while t < m {
+        let sums = eight(circle, x, t);
+        halves(&sums, out, t);
+        t += 8;
+    }
+}
+
+// One of the four frame sizes.
+fn frame_size(n: usize) -> bool
+    ensures { λ r. ⌜ r ≡ frameSize n ⌝ }
+{
+    match n {
+        120 | 240 | 480 | 960 => true,
+        _ => false,
+    }
+}
+
+// Takes n inputs, n one of the four frame sizes, into 2 n outputs. Of any other lengths it returns false, and out stays as it was.
+pub fn imdct_naive_f32(spectrum: &[f32], out: &mut [f32]) -> bool
+    ensures { λ r. do ⌜ r ≡ imdctTakes (← ⟦spectrum.len()⟧ .entry) (← ⟦out.len()⟧ .entry) ⌝ }
+    ensures { λ _. ⌜ now (out .exit) ≡ imdctLeaves (now (spectrum .entry)) (now (out .entry)) ⌝ }
+{
+    let n = spectrum.len();
+    if !frame_size(n) {
+        return false;
+    }
+    if out.len() != 2 * n {
+        return false;
+    }
+    let c = cosines();
+    let cosines = circle(&c, n);
+    outputs(&cosines, spectrum, out);
+    true
+}
