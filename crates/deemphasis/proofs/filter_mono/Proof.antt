@@ -1,0 +1,137 @@
+use mathlib.Core.Path.{_≡_, refl, ap, _∙_, sym}
+use mathlib.Core.List.{List, [], _∷_, _++_}
+use mathlib.Core.Logic.{⊎-elim}
+use Prim.Native.Nat.{ℕ, zero, suc, _+_, _≤_, _<_, _-_}
+use native.Mathlib.Omega.{arith}
+use native.Mathlib.Numerals.{add-one}
+use lib.ListN.{length, getD, set, take, drop, length-set}
+use borrow.Author.Needs.{needs}
+use Rattle.deemphasis.proofs.filter_mono.Statement.{statement}
+use Rattle.deemphasis.proofs.filter_mono.Tie as tie
+use Rattle.deemphasis.proofs.filter_mono.Reads as reads
+use Rattle.deemphasis.proofs.filter_mono.Lts as lts
+use Rattle.deemphasis.proofs.next_memory.Reads as next-memory-reads
+use Rattle.deemphasis.proofs.pcm_value.Reads as pcm-value-reads
+
+abbrev Inv-loop2 : tie.InvT-loop2
+Inv-loop2 v memory downsample pcm count mem₀ j₀ q next mem j = ?
+
+abbrev μ-loop2 : tie.MeasureT-loop2
+μ-loop2 v memory downsample pcm count mem₀ j₀ q next mem j = ?
+
+abbrev Inv-loop : tie.InvT-loop
+Inv-loop v memory downsample pcm₀ count mem₀ j₀ q₀ pcm mem j q = ?
+
+abbrev μ-loop : tie.MeasureT-loop
+μ-loop v memory downsample pcm₀ count mem₀ j₀ q₀ pcm mem j q = ?
+
+-- src/lib.rt:60:17
+div-count : tie.Need-div-count Inv-loop2 μ-loop2 Inv-loop μ-loop
+div-count c = search needs
+
+-- src/lib.rt:63:5
+loop-holds : tie.Need-loop-holds Inv-loop2 μ-loop2 Inv-loop μ-loop
+loop-holds c = search needs
+
+-- src/lib.rt:64:33
+mul-pcm-value : tie.Need-mul-pcm-value Inv-loop2 μ-loop2 Inv-loop μ-loop
+mul-pcm-value c = search needs
+
+-- src/lib.rt:64:33
+shared-slice-read-pcm-value :
+    tie.Need-shared-slice-read-pcm-value Inv-loop2 μ-loop2 Inv-loop μ-loop
+shared-slice-read-pcm-value c = search needs
+
+-- src/lib.rt:64:18
+pcm-value-requires : tie.Need-pcm-value-requires Inv-loop2 μ-loop2 Inv-loop μ-loop
+pcm-value-requires c κs = search needs
+
+-- src/lib.rt:64:9
+mul-pcm : tie.Need-mul-pcm Inv-loop2 μ-loop2 Inv-loop μ-loop
+mul-pcm c = search needs
+
+-- src/lib.rt:64:9
+slice-write-pcm : tie.Need-slice-write-pcm Inv-loop2 μ-loop2 Inv-loop μ-loop
+slice-write-pcm c = search needs
+
+-- src/lib.rt:65:20
+add-next : tie.Need-add-next Inv-loop2 μ-loop2 Inv-loop μ-loop
+add-next c = search needs
+
+-- src/lib.rt:66:9
+loop2-holds : tie.Need-loop2-holds Inv-loop2 μ-loop2 Inv-loop μ-loop
+loop2-holds c = search needs
+
+-- src/lib.rt:67:36
+mul-next-memory : tie.Need-mul-next-memory Inv-loop2 μ-loop2 Inv-loop μ-loop
+mul-next-memory c = search needs
+
+-- src/lib.rt:67:36
+shared-slice-read-next-memory :
+    tie.Need-shared-slice-read-next-memory Inv-loop2 μ-loop2 Inv-loop μ-loop
+shared-slice-read-next-memory c = search needs
+
+-- src/lib.rt:67:13
+next-memory-requires : tie.Need-next-memory-requires Inv-loop2 μ-loop2 Inv-loop μ-loop
+next-memory-requires c κs = search needs
+
+-- src/lib.rt:68:13
+add-j : tie.Need-add-j Inv-loop2 μ-loop2 Inv-loop μ-loop
+add-j c = search needs
+
+-- src/lib.rt:66:9
+loop2-less : tie.Need-loop2-less Inv-loop2 μ-loop2 Inv-loop μ-loop
+loop2-less c = search needs
+
+-- src/lib.rt:66:9
+loop2-again : tie.Need-loop2-again Inv-loop2 μ-loop2 Inv-loop μ-loop
+loop2-again c = search needs
+
+-- src/lib.rt:63:9
+add-q : tie.Need-add-q Inv-loop2 μ-loop2 Inv-loop μ-loop
+add-q c = search needs
+
+-- src/lib.rt:63:5
+loop-less : tie.Need-loop-less Inv-loop2 μ-loop2 Inv-loop μ-loop
+loop-less c = search needs
+
+-- src/lib.rt:63:5
+loop-again : tie.Need-loop-again Inv-loop2 μ-loop2 Inv-loop μ-loop
+loop-again c = search needs
+
+-- src/lib.rt:56:1
+same-length : tie.Need-same-length Inv-loop2 μ-loop2 Inv-loop μ-loop
+same-length c = search needs
+
+-- src/lib.rt:56:1
+returns : tie.Need-returns Inv-loop2 μ-loop2 Inv-loop μ-loop
+returns c = search needs
+
+pub filter-mono-spec : {M : Type 1} → statement M
+filter-mono-spec =
+    tie.close
+    (tie.spec
+    Inv-loop2
+    μ-loop2
+    Inv-loop
+    μ-loop
+    div-count
+    loop-holds
+    mul-pcm-value
+    shared-slice-read-pcm-value
+    pcm-value-requires
+    mul-pcm
+    slice-write-pcm
+    add-next
+    loop2-holds
+    mul-next-memory
+    shared-slice-read-next-memory
+    next-memory-requires
+    add-j
+    loop2-less
+    loop2-again
+    add-q
+    loop-less
+    loop-again
+    same-length
+    returns)
