@@ -75,16 +75,17 @@ fn filter_mono(v: &[f32], memory: f32, downsample: usize, pcm: &mut [f32]) -> f3
 fn filter_stereo(
     v: &[f32],
     w: &[f32],
-    memories: [f32; 2],
+    left: f32,
+    right: f32,
     downsample: usize,
     pcm: &mut [f32],
 ) -> [f32; 2]
     requires { ⌜ (length (now w) ≡ length (now v)) × Room downsample (length (now v)) (length (now pcm) / 2) ⌝ }
-    ensures { λ r. ⌜ (r ≡ memoryTo (now (v .entry)) (getD memories 0 nan) (length (now (v .entry))) ∷ memoryTo (now (w .entry)) (getD memories 1 nan) (length (now (v .entry))) ∷ []) × (now (pcm .exit) ≡ front (tab (valueAt downsample (now (v .entry) ∷ now (w .entry) ∷ []) memories) (2 * (length (now (v .entry)) / downsample))) (now (pcm .entry)) (2 * (length (now (v .entry)) / downsample))) ⌝ }
+    ensures { λ r. ⌜ (r ≡ memoryTo (now (v .entry)) left (length (now (v .entry))) ∷ memoryTo (now (w .entry)) right (length (now (v .entry))) ∷ []) × (now (pcm .exit) ≡ front (tab (valueAt downsample (now (v .entry) ∷ now (w .entry) ∷ []) (left ∷ right ∷ [])) (2 * (length (now (v .entry)) / downsample))) (now (pcm .entry)) (2 * (length (now (v .entry)) / downsample))) ⌝ }
 {
     let count = v.len() / downsample;
-    let mut first = memories[0];
-    let mut second = memories[1];
+    let mut first = left;
+    let mut second = right;
     let mut j: usize = 0;
     for q in 0..count {
         pcm[2 * q] = pcm_value(first, v[j]);
@@ -135,7 +136,7 @@ pub fn deemphasis_stereo(
         let room = pcm.len() / 2;
         let done = has_room(downsample, n, room);
         if done {
-            let after = filter_stereo(v, w, memories, downsample, pcm);
+            let after = filter_stereo(v, w, memories[0], memories[1], downsample, pcm);
             return Voice {
                 done: true,
                 memories: after,

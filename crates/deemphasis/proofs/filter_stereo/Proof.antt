@@ -14,142 +14,134 @@ use Rattle.deemphasis.proofs.next_memory.Reads as next-memory-reads
 use Rattle.deemphasis.proofs.pcm_value.Reads as pcm-value-reads
 
 abbrev Inv-loop2 : tie.InvT-loop2
-Inv-loop2 v w downsample pcm count first₀ second₀ j₀ q next first second j = ?
+Inv-loop2 v w left right downsample pcm count first₀ second₀ j₀ q next first second j = ?
 
 abbrev μ-loop2 : tie.MeasureT-loop2
-μ-loop2 v w downsample pcm count first₀ second₀ j₀ q next first second j = ?
+μ-loop2 v w left right downsample pcm count first₀ second₀ j₀ q next first second j = ?
 
 abbrev Inv-loop : tie.InvT-loop
-Inv-loop v w downsample pcm₀ count first₀ second₀ j₀ q₀ pcm first second j q = ?
+Inv-loop v w left right downsample pcm₀ count first₀ second₀ j₀ q₀ pcm first second j q = ?
 
 abbrev μ-loop : tie.MeasureT-loop
-μ-loop v w downsample pcm₀ count first₀ second₀ j₀ q₀ pcm first second j q = ?
+μ-loop v w left right downsample pcm₀ count first₀ second₀ j₀ q₀ pcm first second j q = ?
 
--- src/lib.rt:85:17
+-- src/lib.rt:86:17
 div-count : tie.Need-div-count Inv-loop2 μ-loop2 Inv-loop μ-loop
 div-count c = search needs
 
--- src/lib.rt:86:21
-array-read-first : tie.Need-array-read-first Inv-loop2 μ-loop2 Inv-loop μ-loop
-array-read-first c = search needs
-
--- src/lib.rt:87:22
-array-read-second : tie.Need-array-read-second Inv-loop2 μ-loop2 Inv-loop μ-loop
-array-read-second c = search needs
-
--- src/lib.rt:89:5
+-- src/lib.rt:90:5
 loop-holds : tie.Need-loop-holds Inv-loop2 μ-loop2 Inv-loop μ-loop
 loop-holds c = search needs
 
--- src/lib.rt:90:39
+-- src/lib.rt:91:39
 mul-pcm-value : tie.Need-mul-pcm-value Inv-loop2 μ-loop2 Inv-loop μ-loop
 mul-pcm-value c = search needs
 
--- src/lib.rt:90:39
+-- src/lib.rt:91:39
 shared-slice-read-pcm-value :
     tie.Need-shared-slice-read-pcm-value Inv-loop2 μ-loop2 Inv-loop μ-loop
 shared-slice-read-pcm-value c = search needs
 
--- src/lib.rt:90:22
+-- src/lib.rt:91:22
 pcm-value-requires : tie.Need-pcm-value-requires Inv-loop2 μ-loop2 Inv-loop μ-loop
 pcm-value-requires c κs = search needs
 
--- src/lib.rt:90:13
+-- src/lib.rt:91:13
 mul-pcm : tie.Need-mul-pcm Inv-loop2 μ-loop2 Inv-loop μ-loop
 mul-pcm c = search needs
 
--- src/lib.rt:90:9
+-- src/lib.rt:91:9
 mul-pcm-2 : tie.Need-mul-pcm-2 Inv-loop2 μ-loop2 Inv-loop μ-loop
 mul-pcm-2 c = search needs
 
--- src/lib.rt:90:9
+-- src/lib.rt:91:9
 slice-write-pcm : tie.Need-slice-write-pcm Inv-loop2 μ-loop2 Inv-loop μ-loop
 slice-write-pcm c = search needs
 
--- src/lib.rt:91:44
+-- src/lib.rt:92:44
 mul-pcm-value-2 : tie.Need-mul-pcm-value-2 Inv-loop2 μ-loop2 Inv-loop μ-loop
 mul-pcm-value-2 c = search needs
 
--- src/lib.rt:91:44
+-- src/lib.rt:92:44
 shared-slice-read-pcm-value-2 :
     tie.Need-shared-slice-read-pcm-value-2 Inv-loop2 μ-loop2 Inv-loop μ-loop
 shared-slice-read-pcm-value-2 c = search needs
 
--- src/lib.rt:91:26
+-- src/lib.rt:92:26
 pcm-value-requires-2 : tie.Need-pcm-value-requires-2 Inv-loop2 μ-loop2 Inv-loop μ-loop
 pcm-value-requires-2 c κs = search needs
 
--- src/lib.rt:91:13
+-- src/lib.rt:92:13
 mul-pcm-3 : tie.Need-mul-pcm-3 Inv-loop2 μ-loop2 Inv-loop μ-loop
 mul-pcm-3 c = search needs
 
--- src/lib.rt:91:13
+-- src/lib.rt:92:13
 add-pcm : tie.Need-add-pcm Inv-loop2 μ-loop2 Inv-loop μ-loop
 add-pcm c = search needs
 
--- src/lib.rt:91:9
+-- src/lib.rt:92:9
 mul-pcm-4 : tie.Need-mul-pcm-4 Inv-loop2 μ-loop2 Inv-loop μ-loop
 mul-pcm-4 c = search needs
 
--- src/lib.rt:91:9
+-- src/lib.rt:92:9
 slice-write-pcm-2 : tie.Need-slice-write-pcm-2 Inv-loop2 μ-loop2 Inv-loop μ-loop
 slice-write-pcm-2 c = search needs
 
--- src/lib.rt:92:20
+-- src/lib.rt:93:20
 add-next : tie.Need-add-next Inv-loop2 μ-loop2 Inv-loop μ-loop
 add-next c = search needs
 
--- src/lib.rt:93:9
+-- src/lib.rt:94:9
 loop2-holds : tie.Need-loop2-holds Inv-loop2 μ-loop2 Inv-loop μ-loop
 loop2-holds c = search needs
 
--- src/lib.rt:94:40
+-- src/lib.rt:95:40
 mul-next-memory : tie.Need-mul-next-memory Inv-loop2 μ-loop2 Inv-loop μ-loop
 mul-next-memory c = search needs
 
--- src/lib.rt:94:40
+-- src/lib.rt:95:40
 shared-slice-read-next-memory :
     tie.Need-shared-slice-read-next-memory Inv-loop2 μ-loop2 Inv-loop μ-loop
 shared-slice-read-next-memory c = search needs
 
--- src/lib.rt:94:13
+-- src/lib.rt:95:13
 next-memory-requires : tie.Need-next-memory-requires Inv-loop2 μ-loop2 Inv-loop μ-loop
 next-memory-requires c κs = search needs
 
--- src/lib.rt:95:42
+-- src/lib.rt:96:42
 mul-next-memory-2 : tie.Need-mul-next-memory-2 Inv-loop2 μ-loop2 Inv-loop μ-loop
 mul-next-memory-2 c = search needs
 
--- src/lib.rt:95:42
+-- src/lib.rt:96:42
 shared-slice-read-next-memory-2 :
     tie.Need-shared-slice-read-next-memory-2 Inv-loop2 μ-loop2 Inv-loop μ-loop
 shared-slice-read-next-memory-2 c = search needs
 
--- src/lib.rt:95:13
+-- src/lib.rt:96:13
 next-memory-requires-2 : tie.Need-next-memory-requires-2 Inv-loop2 μ-loop2 Inv-loop μ-loop
 next-memory-requires-2 c κs = search needs
 
--- src/lib.rt:96:13
+-- src/lib.rt:97:13
 add-j : tie.Need-add-j Inv-loop2 μ-loop2 Inv-loop μ-loop
 add-j c = search needs
 
--- src/lib.rt:93:9
+-- src/lib.rt:94:9
 loop2-less : tie.Need-loop2-less Inv-loop2 μ-loop2 Inv-loop μ-loop
 loop2-less c = search needs
 
--- src/lib.rt:93:9
+-- src/lib.rt:94:9
 loop2-again : tie.Need-loop2-again Inv-loop2 μ-loop2 Inv-loop μ-loop
 loop2-again c = search needs
 
--- src/lib.rt:89:9
+-- src/lib.rt:90:9
 add-q : tie.Need-add-q Inv-loop2 μ-loop2 Inv-loop μ-loop
 add-q c = search needs
 
--- src/lib.rt:89:5
+-- src/lib.rt:90:5
 loop-less : tie.Need-loop-less Inv-loop2 μ-loop2 Inv-loop μ-loop
 loop-less c = search needs
 
--- src/lib.rt:89:5
+-- src/lib.rt:90:5
 loop-again : tie.Need-loop-again Inv-loop2 μ-loop2 Inv-loop μ-loop
 loop-again c = search needs
 
@@ -170,8 +162,6 @@ filter-stereo-spec =
     Inv-loop
     μ-loop
     div-count
-    array-read-first
-    array-read-second
     loop-holds
     mul-pcm-value
     shared-slice-read-pcm-value

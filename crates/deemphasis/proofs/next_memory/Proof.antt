@@ -1,19 +1,11 @@
-use mathlib.Core.Path.{_≡_, refl, ap, _∙_, sym}
-use mathlib.Core.List.{List, [], _∷_, _++_}
-use mathlib.Core.Logic.{⊎-elim}
-use Prim.Native.Nat.{ℕ, zero, suc, _+_, _≤_, _<_, _-_}
-use native.Mathlib.Omega.{arith}
-use native.Mathlib.Numerals.{add-one}
-use lib.ListN.{length, getD, set, take, drop, length-set}
-use borrow.Author.Needs.{needs}
+use mathlib.Core.Path.{refl}
+use Rattle.deemphasis.specs.Deemphasis.{next}
 use Rattle.deemphasis.proofs.next_memory.Statement.{statement}
 use Rattle.deemphasis.proofs.next_memory.Tie as tie
-use Rattle.deemphasis.proofs.next_memory.Reads as reads
-use Rattle.deemphasis.proofs.next_memory.Lts as lts
 
--- src/lib.rt:27:1
 returns : tie.Need-returns
-returns c = search needs
+unfolding next
+returns c = refl
 
 pub next-memory-spec : {M : Type 1} → statement M
 next-memory-spec = tie.close (tie.spec returns)
