@@ -1,0 +1,1 @@
+// The noise path of one loss.
