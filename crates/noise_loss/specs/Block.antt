@@ -1,7 +1,7 @@
 -- A noise block: N + 120 samples, a function of settings, seed and one channel's 25 energies alone.
 use mathlib.Core.Path.{_≡_}
 use mathlib.Core.List.{List}
-use Prim.Native.Nat.{ℕ, _+_, _*_, _-_, _/_, _^_}
+use Prim.Native.Nat.{ℕ, _+_, _*_, _-_, _/_}
 use lib.ListN.{length, getD, replicate}
 use lib.Ieee.{Float, nan, binary32, ofBits, mul}
 use Rattle.loops.specs.Front.{tab, length-tab}
@@ -18,15 +18,16 @@ pub record Block : Type 0 where
   pub samples : List Float
   pub seed : ℕ
 
+-- at block factor m, for a frame of 120 m samples
 unfoldable pub noiseBlock : ℕ → ℕ → ℕ → ℕ → ℕ → List Float → Block
-noiseBlock lm start end downsample seed energies =
-    let n = 120 * 2 ^ lm in
+noiseBlock m start end downsample seed energies =
+    let n = 120 * m in
     record {
-      samples = tab (windowed n (imdct n (spectrum lm start end downsample seed energies))) (n + 120);
-      seed = noiseShape (2 ^ lm) start seed (replicate n zero32) .seed;
+      samples = tab (windowed n (imdct n (spectrum m start end downsample seed energies))) (n + 120);
+      seed = noiseShape m start seed (replicate n zero32) .seed;
     }
 
-pub length-block : (lm start end downsample seed : ℕ) (energies : List Float)
-    → length (noiseBlock lm start end downsample seed energies .samples) ≡ 120 * 2 ^ lm + 120
+pub length-block : (m start end downsample seed : ℕ) (energies : List Float)
+    → length (noiseBlock m start end downsample seed energies .samples) ≡ 120 * m + 120
 unfolding noiseBlock
-length-block lm start end downsample seed energies = length-tab _ (120 * 2 ^ lm + 120)
+length-block m start end downsample seed energies = length-tab _ (120 * m + 120)

@@ -36,6 +36,5 @@ length-lowerEnergies channels start end count coarse = go (leb 5 count)
     go false = length-tab (droppedAt channels start end count coarse) (length coarse)
 
 -- the energies that a noise loss reads: the background's from loss count 5 on, else the coarse ones after the drop
-unfoldable pub readEnergies : ℕ → ℕ → ℕ → ℕ → List Float → List Float → List Float
-readEnergies channels start end count coarse background =
-    cond (leb 5 count) background (lowerEnergies channels start end count coarse)
+unfoldable pub readEnergies : ℕ → List Float → List Float → List Float
+readEnergies count lowered background = cond (leb 5 count) background lowered

@@ -4,3 +4,4 @@ pub mod Shape
 pub mod Spectrum
 pub mod Block
 pub mod Laid
+pub mod Channel

@@ -2,7 +2,7 @@
 use mathlib.Core.Path.{_≡_, refl, ap, _∙_}
 use mathlib.Core.List.{List, _++_, map}
 use mathlib.Core.Bool.{Bool, cond, not, _&&_}
-use Prim.Native.Nat.{ℕ, _+_, _*_, _-_, _/_, _^_}
+use Prim.Native.Nat.{ℕ, _+_, _*_, _-_, _/_}
 use lib.ListN.{length, getD, take, drop, replicate}
 use lib.Seq.{slice}
 use lib.Dec.{eqb, ltb}
@@ -28,19 +28,18 @@ times g v = mul binary32 v g
 unfoldable pub gainTurn : ℕ → List Float → List Float → ℕ → List Float
 gainTurn m energies bins i = put (lo m i) (width m i) (map (times (gainOf energies i)) (slice (lo m i) (lo m (i + 1)) bins)) bins
 
--- where the spectrum ends: at the edge of end, and at a frame's part that is left by downsampling
+-- where the spectrum ends: at the edge of end, or where downsampling ends it, if that is lower
 unfoldable pub bound : ℕ → ℕ → ℕ → ℕ
-bound lm end downsample =
-    let edge = lo (2 ^ lm) end in
-    let part = 120 * 2 ^ lm / downsample in
-    cond (not (eqb downsample 1) && ltb part edge) part edge
+bound m end downsample =
+    let part = 120 * m / downsample in
+    cond (not (eqb downsample 1) && ltb part (lo m end)) part (lo m end)
 
 -- zeros from b on
 unfoldable pub cleared : ℕ → List Float → List Float
 cleared b bins = take b bins ++ replicate (length bins - b) zero32
 
--- the noise of the bands from start to just below end, times their gains
+-- the noise of the bands from start to just below end, times their gains, over bins that are zero elsewhere
 unfoldable pub spectrum : ℕ → ℕ → ℕ → ℕ → ℕ → List Float → List Float
-spectrum lm start end downsample seed energies =
-    let bins = noiseShape (2 ^ lm) start seed (replicate (120 * 2 ^ lm) zero32) .bins in
-    cleared (bound lm end downsample) (foldRange (gainTurn (2 ^ lm) energies) bins start end)
+spectrum m start end downsample seed energies =
+    let bins = noiseShape m start seed (replicate (120 * m) zero32) .bins in
+    cleared (bound m end downsample) (foldRange (gainTurn m energies) bins start end)
