@@ -1,0 +1,2 @@
+-- De-emphasis and PCM.
+pub mod Deemphasis

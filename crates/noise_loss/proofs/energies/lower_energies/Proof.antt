@@ -1,0 +1,87 @@
+use mathlib.Core.Path.{_≡_, refl, ap, _∙_, sym}
+use mathlib.Core.List.{List, [], _∷_, _++_}
+use mathlib.Core.Logic.{⊎-elim}
+use Prim.Native.Nat.{ℕ, zero, suc, _+_, _≤_, _<_, _-_}
+use native.Mathlib.Omega.{arith}
+use native.Mathlib.Numerals.{add-one}
+use lib.ListN.{length, getD, set, take, drop, length-set}
+use borrow.Author.Needs.{needs}
+use Rattle.noise_loss.proofs.energies.lower_energies.Statement.{statement}
+use Rattle.noise_loss.proofs.energies.lower_energies.Tie as tie
+use Rattle.noise_loss.proofs.energies.lower_energies.Reads as reads
+use Rattle.noise_loss.proofs.energies.lower_energies.Lts as lts
+use Rattle.noise_loss.proofs.energies.decay_of.Reads as decay-of-reads
+use Rattle.noise_loss.proofs.energies.dropped.Reads as dropped-reads
+
+abbrev Inv-loop : tie.InvT-loop
+Inv-loop channels start end count by e₀ i₀ e i = ?
+
+abbrev μ-loop : tie.MeasureT-loop
+μ-loop channels start end count by e₀ i₀ e i = ?
+
+-- src/energies.rt:39:9
+returns : tie.Need-returns Inv-loop μ-loop
+returns c = search needs
+
+-- src/energies.rt:41:9
+decay-of-requires : tie.Need-decay-of-requires Inv-loop μ-loop
+decay-of-requires c κs = search needs
+
+-- src/energies.rt:43:5
+loop-holds : tie.Need-loop-holds Inv-loop μ-loop
+loop-holds c = search needs
+
+-- src/energies.rt:44:24
+mul-dropped : tie.Need-mul-dropped Inv-loop μ-loop
+mul-dropped c = search needs
+
+-- src/energies.rt:44:24
+array-read-dropped : tie.Need-array-read-dropped Inv-loop μ-loop
+array-read-dropped c = search needs
+
+-- src/energies.rt:44:16
+dropped-requires : tie.Need-dropped-requires Inv-loop μ-loop
+dropped-requires c κs = search needs
+
+-- src/energies.rt:44:9
+mul-e : tie.Need-mul-e Inv-loop μ-loop
+mul-e c = search needs
+
+-- src/energies.rt:44:9
+array-write-e : tie.Need-array-write-e Inv-loop μ-loop
+array-write-e c = search needs
+
+-- src/energies.rt:43:9
+add-i : tie.Need-add-i Inv-loop μ-loop
+add-i c = search needs
+
+-- src/energies.rt:43:5
+loop-less : tie.Need-loop-less Inv-loop μ-loop
+loop-less c = search needs
+
+-- src/energies.rt:43:5
+loop-again : tie.Need-loop-again Inv-loop μ-loop
+loop-again c = search needs
+
+-- src/energies.rt:29:1
+returns-2 : tie.Need-returns-2 Inv-loop μ-loop
+returns-2 c = search needs
+
+pub lower-energies-spec : {M : Type 1} → statement M
+lower-energies-spec =
+    tie.close
+    (tie.spec
+    Inv-loop
+    μ-loop
+    returns
+    decay-of-requires
+    loop-holds
+    mul-dropped
+    array-read-dropped
+    dropped-requires
+    mul-e
+    array-write-e
+    add-i
+    loop-less
+    loop-again
+    returns-2)

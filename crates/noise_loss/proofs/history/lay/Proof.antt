@@ -1,0 +1,138 @@
+use mathlib.Core.Path.{_≡_, refl, ap, _∙_, sym}
+use mathlib.Core.List.{List, [], _∷_, _++_}
+use mathlib.Core.Logic.{⊎-elim}
+use Prim.Native.Nat.{ℕ, zero, suc, _+_, _≤_, _<_, _-_}
+use native.Mathlib.Omega.{arith}
+use native.Mathlib.Numerals.{add-one}
+use lib.ListN.{length, getD, set, take, drop, length-set}
+use borrow.Author.Needs.{needs}
+use Rattle.noise_loss.proofs.history.lay.Statement.{statement}
+use Rattle.noise_loss.proofs.history.lay.Tie as tie
+use Rattle.noise_loss.proofs.history.lay.Reads as reads
+use Rattle.noise_loss.proofs.history.lay.Lts as lts
+
+abbrev Inv-loop : tie.InvT-loop
+Inv-loop tail₀ block n j₀ tail j = ?
+
+abbrev μ-loop : tie.MeasureT-loop
+μ-loop tail₀ block n j₀ tail j = ?
+
+abbrev Inv-loop2 : tie.InvT-loop2
+Inv-loop2 tail₀ block n size j₀ tail j = ?
+
+abbrev μ-loop2 : tie.MeasureT-loop2
+μ-loop2 tail₀ block n size j₀ tail j = ?
+
+-- src/history.rt:13:5
+loop-holds : tie.Need-loop-holds Inv-loop μ-loop Inv-loop2 μ-loop2
+loop-holds c = search needs
+
+-- src/history.rt:14:19
+mul-tail : tie.Need-mul-tail Inv-loop μ-loop Inv-loop2 μ-loop2
+mul-tail c = search needs
+
+-- src/history.rt:14:19
+shared-slice-read-tail : tie.Need-shared-slice-read-tail Inv-loop μ-loop Inv-loop2 μ-loop2
+shared-slice-read-tail c = search needs
+
+-- src/history.rt:14:35
+add-tail : tie.Need-add-tail Inv-loop μ-loop Inv-loop2 μ-loop2
+add-tail c = search needs
+
+-- src/history.rt:14:30
+mul-tail-2 : tie.Need-mul-tail-2 Inv-loop μ-loop Inv-loop2 μ-loop2
+mul-tail-2 c = search needs
+
+-- src/history.rt:14:30
+slice-read-tail : tie.Need-slice-read-tail Inv-loop μ-loop Inv-loop2 μ-loop2
+slice-read-tail c = search needs
+
+-- src/history.rt:14:9
+mul-tail-3 : tie.Need-mul-tail-3 Inv-loop μ-loop Inv-loop2 μ-loop2
+mul-tail-3 c = search needs
+
+-- src/history.rt:14:9
+slice-write-tail : tie.Need-slice-write-tail Inv-loop μ-loop Inv-loop2 μ-loop2
+slice-write-tail c = search needs
+
+-- src/history.rt:13:9
+add-j : tie.Need-add-j Inv-loop μ-loop Inv-loop2 μ-loop2
+add-j c = search needs
+
+-- src/history.rt:13:5
+loop-less : tie.Need-loop-less Inv-loop μ-loop Inv-loop2 μ-loop2
+loop-less c = search needs
+
+-- src/history.rt:13:5
+loop-again : tie.Need-loop-again Inv-loop μ-loop Inv-loop2 μ-loop2
+loop-again c = search needs
+
+-- src/history.rt:17:5
+loop2-holds : tie.Need-loop2-holds Inv-loop μ-loop Inv-loop2 μ-loop2
+loop2-holds c = search needs
+
+-- src/history.rt:18:19
+mul-tail-4 : tie.Need-mul-tail-4 Inv-loop μ-loop Inv-loop2 μ-loop2
+mul-tail-4 c = search needs
+
+-- src/history.rt:18:19
+shared-slice-read-tail-2 : tie.Need-shared-slice-read-tail-2 Inv-loop μ-loop Inv-loop2 μ-loop2
+shared-slice-read-tail-2 c = search needs
+
+-- src/history.rt:18:9
+mul-tail-5 : tie.Need-mul-tail-5 Inv-loop μ-loop Inv-loop2 μ-loop2
+mul-tail-5 c = search needs
+
+-- src/history.rt:18:9
+slice-write-tail-2 : tie.Need-slice-write-tail-2 Inv-loop μ-loop Inv-loop2 μ-loop2
+slice-write-tail-2 c = search needs
+
+-- src/history.rt:17:9
+add-j-2 : tie.Need-add-j-2 Inv-loop μ-loop Inv-loop2 μ-loop2
+add-j-2 c = search needs
+
+-- src/history.rt:17:5
+loop2-less : tie.Need-loop2-less Inv-loop μ-loop Inv-loop2 μ-loop2
+loop2-less c = search needs
+
+-- src/history.rt:17:5
+loop2-again : tie.Need-loop2-again Inv-loop μ-loop Inv-loop2 μ-loop2
+loop2-again c = search needs
+
+-- src/history.rt:9:1
+same-length : tie.Need-same-length Inv-loop μ-loop Inv-loop2 μ-loop2
+same-length c = search needs
+
+-- src/history.rt:9:1
+returns : tie.Need-returns Inv-loop μ-loop Inv-loop2 μ-loop2
+returns c = search needs
+
+pub lay-spec : {M : Type 1} → statement M
+lay-spec =
+    tie.close
+    (tie.spec
+    Inv-loop
+    μ-loop
+    Inv-loop2
+    μ-loop2
+    loop-holds
+    mul-tail
+    shared-slice-read-tail
+    add-tail
+    mul-tail-2
+    slice-read-tail
+    mul-tail-3
+    slice-write-tail
+    add-j
+    loop-less
+    loop-again
+    loop2-holds
+    mul-tail-4
+    shared-slice-read-tail-2
+    mul-tail-5
+    slice-write-tail-2
+    add-j-2
+    loop2-less
+    loop2-again
+    same-length
+    returns)

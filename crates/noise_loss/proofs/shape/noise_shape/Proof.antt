@@ -1,0 +1,107 @@
+use mathlib.Core.Path.{_≡_, refl, ap, _∙_, sym}
+use mathlib.Core.List.{List, [], _∷_, _++_}
+use mathlib.Core.Logic.{⊎-elim}
+use Prim.Native.Nat.{ℕ, zero, suc, _+_, _≤_, _<_, _-_}
+use native.Mathlib.Omega.{arith}
+use native.Mathlib.Numerals.{add-one}
+use lib.ListN.{length, getD, set, take, drop, length-set}
+use borrow.Author.Needs.{needs}
+use Rattle.noise_loss.proofs.shape.noise_shape.Statement.{statement}
+use Rattle.noise_loss.proofs.shape.noise_shape.Tie as tie
+use Rattle.noise_loss.proofs.shape.noise_shape.Reads as reads
+use Rattle.noise_loss.proofs.shape.noise_shape.Lts as lts
+use Rattle.custom_mode.proofs.standard.band_edge.Reads as band-edge-reads
+use Rattle.noise_loss.proofs.shape.band_noise.Reads as band-noise-reads
+
+abbrev Inv-loop : tie.InvT-loop
+Inv-loop bins₀ m start seed s₀ i₀ bins s i = ?
+
+abbrev μ-loop : tie.MeasureT-loop
+μ-loop bins₀ m start seed s₀ i₀ bins s i = ?
+
+-- src/shape.rt:25:5
+loop-holds : tie.Need-loop-holds Inv-loop μ-loop
+loop-holds c = search needs
+
+-- src/shape.rt:26:21
+band-edge-requires : tie.Need-band-edge-requires Inv-loop μ-loop
+band-edge-requires c κs = search needs
+
+-- src/shape.rt:26:17
+mul-a : tie.Need-mul-a Inv-loop μ-loop
+mul-a c = search needs
+
+-- src/shape.rt:27:31
+add-band-edge : tie.Need-add-band-edge Inv-loop μ-loop
+add-band-edge c = search needs
+
+-- src/shape.rt:27:21
+band-edge-requires-2 : tie.Need-band-edge-requires-2 Inv-loop μ-loop
+band-edge-requires-2 c κs = search needs
+
+-- src/shape.rt:27:17
+mul-e : tie.Need-mul-e Inv-loop μ-loop
+mul-e c = search needs
+
+-- src/shape.rt:28:24
+mul-band-noise : tie.Need-mul-band-noise Inv-loop μ-loop
+mul-band-noise c = search needs
+
+-- src/shape.rt:28:24
+sub-band-noise : tie.Need-sub-band-noise Inv-loop μ-loop
+sub-band-noise c = search needs
+
+-- src/shape.rt:28:24
+part-band-noise-start : tie.Need-part-band-noise-start Inv-loop μ-loop
+part-band-noise-start c = search needs
+
+-- src/shape.rt:28:24
+part-band-noise-end : tie.Need-part-band-noise-end Inv-loop μ-loop
+part-band-noise-end c = search needs
+
+-- src/shape.rt:28:9
+band-noise-requires : tie.Need-band-noise-requires Inv-loop μ-loop
+band-noise-requires c κs = search needs
+
+-- src/shape.rt:25:9
+add-i : tie.Need-add-i Inv-loop μ-loop
+add-i c = search needs
+
+-- src/shape.rt:25:5
+loop-less : tie.Need-loop-less Inv-loop μ-loop
+loop-less c = search needs
+
+-- src/shape.rt:25:5
+loop-again : tie.Need-loop-again Inv-loop μ-loop
+loop-again c = search needs
+
+-- src/shape.rt:20:1
+same-length : tie.Need-same-length Inv-loop μ-loop
+same-length c = search needs
+
+-- src/shape.rt:20:1
+returns : tie.Need-returns Inv-loop μ-loop
+returns c = search needs
+
+pub noise-shape-spec : {M : Type 1} → statement M
+noise-shape-spec =
+    tie.close
+    (tie.spec
+    Inv-loop
+    μ-loop
+    loop-holds
+    band-edge-requires
+    mul-a
+    add-band-edge
+    band-edge-requires-2
+    mul-e
+    mul-band-noise
+    sub-band-noise
+    part-band-noise-start
+    part-band-noise-end
+    band-noise-requires
+    add-i
+    loop-less
+    loop-again
+    same-length
+    returns)

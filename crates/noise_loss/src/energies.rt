@@ -1,0 +1,54 @@
+// Which energies a noise loss reads, and which drop.
+ghost use mathlib.Core.Path.{_≡_};
+ghost use mathlib.Core.Bool.{cond};
+ghost use lib.Ieee.{binary32, sub};
+ghost use Rattle.noise_loss.specs.Energies.{decay, drops, lowerEnergies, readEnergies};
+
+fn decay_of(count: u32) -> f32
+    ensures { λ r. ⌜ r ≡ decay count ⌝ }
+{
+    if count == 0 { 1.5 } else { 0.5 }
+}
+
+// The energy at place i, lower by `by` where it drops.
+fn dropped(energy: f32, i: usize, channels: usize, start: usize, end: usize, by: f32) -> f32
+    ensures { λ r. ⌜ r ≡ cond (drops channels start end i) (sub binary32 energy by) energy ⌝ }
+{
+    let band = i % 25;
+    if i / 25 < channels {
+        if start <= band {
+            if band < end {
+                return energy - by;
+            }
+        }
+    }
+    energy
+}
+
+// The coarse energies of both channels after a noise loss.
+pub fn lower_energies(
+    coarse: [f32; 50],
+    channels: usize,
+    start: usize,
+    end: usize,
+    count: u32,
+) -> [f32; 50]
+    ensures { λ r. ⌜ r ≡ lowerEnergies channels start end count coarse ⌝ }
+{
+    if 5 <= count {
+        return coarse;
+    }
+    let by = decay_of(count);
+    let mut e = coarse;
+    for i in 0..50 {
+        e[i] = dropped(e[i], i, channels, start, end, by);
+    }
+    e
+}
+
+// The energies that a noise loss reads, the coarse ones being those after the drop.
+pub fn read_energies(lowered: [f32; 50], background: [f32; 50], count: u32) -> [f32; 50]
+    ensures { λ r. ⌜ r ≡ readEnergies count lowered background ⌝ }
+{
+    if 5 <= count { background } else { lowered }
+}
