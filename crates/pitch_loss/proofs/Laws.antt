@@ -1,0 +1,71 @@
+-- Laws of plain variables that the proofs cite.
+use mathlib.Core.Path.{_≡_, refl, ap, _∙_, sym}
+use mathlib.Core.List.{List, [], _∷_, _++_}
+use Prim.Native.Nat.{ℕ, zero, suc, _+_, _≤_, _<_, _-_}
+use native.Mathlib.Omega.{arith}
+use lib.ListN.{length, getD, drop, List·getD-append, length-append, length-drop}
+use lib.Seq.{getD-drop, getD-append-add, take-at}
+use lib.ListN.{take}
+use lib.Dec.{ltb, eqb}
+use lib.Ieee.{Float}
+use mathlib.Core.Bool.{Bool, true, false, cond}
+use borrow.Author.Tests.{ltb-true, eqb-false}
+use Rattle.loops.specs.Front.{front, tab, length-tab, tab-same, tab-list}
+use Rattle.pitch_loss.specs.Overlap.{fromEnd, movedBack, rolled}
+use Rattle.pitch_loss.specs.Decay.{decayPeriod}
+use Rattle.pitch_loss.specs.Copy.{stepped}
+
+-- what stands past the outputs of a loop that fills a list from the front
+pub front-later : {A : Type 0} (d : A) (xs b out : List A) (i k : ℕ) → b ≡ front out xs i → length out ≡ i → i ≤ k → getD b k d ≡ getD xs k d
+unfolding front
+front-later d xs b out i k e l h =
+    let p : length out + (k - i) ≡ k = omega arith in
+    let q : i + (k - i) ≡ k = omega arith in
+    ap (λ z. getD z k d) e ∙ ap (λ z. getD (out ++ drop i xs) z d) (sym p)
+    ∙ getD-append-add out (drop i xs) (k - i) d
+    ∙ getD-drop i xs (k - i) d
+    ∙ ap (λ z. getD xs z d) q
+
+-- a place's distance from the nearer end is a place
+pub fromEnd-lt : (k : ℕ) → k < 120 → fromEnd k < 120
+unfolding fromEnd
+fromEnd-lt k h = go (ltb k 60)
+  where
+    go : (b : Bool) → cond b k (119 - k) < 120
+    go true = h
+    go false = omega arith
+
+-- a period's energies lie within the excitation
+pub decayPeriod-le : (lag : ℕ) → decayPeriod lag ≤ 512
+unfolding decayPeriod
+decayPeriod-le lag = go (ltb lag 512) refl
+  where
+    go : (b : Bool) → ltb lag 512 ≡ b → cond b lag 512 ≤ 512
+    go true e = omega (arith, ltb-true lag 512 e)
+    go false e = omega arith
+
+-- a position of the excitation, and none before the last cycle
+pub stepped-lt : (lag p : ℕ) → p < 1024 → 0 < lag → stepped lag p < 1024
+unfolding stepped
+stepped-lt lag p h g = go (eqb (p + 1) 1024) refl
+  where
+    go : (b : Bool) → eqb (p + 1) 1024 ≡ b → cond b (p + 1 - lag) (p + 1) < 1024
+    go true e = omega arith
+    go false e = omega (arith, eqb-false (p + 1) 1024 e)
+
+-- all of a list moved back by n, the part from k on replaced by the n samples of a frame
+pub roll-is : (frame new : List Float) (k : ℕ) → length frame ≤ length new → k ≡ length new - length frame
+    → take k (movedBack (length frame) new) ++ frame ≡ rolled frame new
+unfolding movedBack rolled
+roll-is frame new k h e =
+    ap (λ z. z ++ frame) (take-at (drop (length frame) new) _ k (length-drop (length frame) new ∙ sym e))
+
+-- the first places replaced by what stood n later, up to the last n
+pub moved-is : (d : Float) (n : ℕ) (new b : List Float) (i : ℕ) → b ≡ front (tab (λ (k : ℕ). getD new (n + k) d) i) new i
+    → n ≤ length new → i ≡ length new - n → b ≡ movedBack n new
+unfolding movedBack front
+moved-is d n new b i e h q =
+    let l : length (drop n new) ≡ i = length-drop n new ∙ sym q in
+    let t : tab (λ (k : ℕ). getD new (n + k) d) i ≡ drop n new =
+    tab-same _ _ i (λ k _. sym (getD-drop n new k d)) ∙ ap (tab (λ (k : ℕ). getD (drop n new) k d)) (sym l) ∙ tab-list d (drop n new) in
+    e ∙ ap (λ z. z ++ drop i new) t ∙ ap (λ z. drop n new ++ drop z new) q
