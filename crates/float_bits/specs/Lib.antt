@@ -4,3 +4,4 @@ pub mod Formats
 pub mod Root
 pub mod Words
 pub mod Steps
+pub mod Marked

@@ -1,31 +1,36 @@
-use mathlib.Core.Path.{_≡_, refl, ap, _∙_, sym}
-use mathlib.Core.List.{List, [], _∷_, _++_}
-use mathlib.Core.Logic.{⊎-elim}
-use Prim.Native.Nat.{ℕ, zero, suc, _+_, _≤_, _<_, _-_}
-use native.Mathlib.Omega.{arith}
-use native.Mathlib.Numerals.{add-one}
-use lib.ListN.{length, getD, set, take, drop, length-set}
-use borrow.Author.Needs.{needs}
+use lib.Ieee.{lt}
+use Rattle.float_bits.specs.Extremes.{minOf}
+use Rattle.float_bits.proofs.Extreme.{first-nan, second-nan, second-wins, first-stays}
 use Rattle.float_bits.proofs.extremes.min_f32.Statement.{statement}
 use Rattle.float_bits.proofs.extremes.min_f32.Tie as tie
-use Rattle.float_bits.proofs.extremes.min_f32.Reads as reads
-use Rattle.float_bits.proofs.extremes.min_f32.Lts as lts
 
--- src/extremes.rt:10:9
 returns : tie.Need-returns
-returns c = search needs
+unfolding minOf
+returns c =
+    let x = c .before .args .x in
+    let y = c .before .args .y in
+    first-nan (lt y x) x y (c .if1 .taken)
 
--- src/extremes.rt:13:9
 returns-2 : tie.Need-returns-2
-returns-2 c = search needs
+unfolding minOf
+returns-2 c =
+    let x = c .before .before .args .x in
+    let y = c .before .before .args .y in
+    second-nan (lt y x) x y (c .before .if1 .left) (c .if2 .taken)
 
--- src/extremes.rt:6:1
 returns-3 : tie.Need-returns-3
-returns-3 c = search needs
+unfolding minOf
+returns-3 c =
+    let x = c .before .before .before .args .x in
+    let y = c .before .before .before .args .y in
+    second-wins (lt y x) x y (c .before .before .if1 .left) (c .before .if2 .left) (c .if3 .taken)
 
--- src/extremes.rt:6:1
 returns-4 : tie.Need-returns-4
-returns-4 c = search needs
+unfolding minOf
+returns-4 c =
+    let x = c .before .before .before .args .x in
+    let y = c .before .before .before .args .y in
+    first-stays (lt y x) x y (c .before .before .if1 .left) (c .before .if2 .left) (c .if3 .left)
 
 pub min-f32-spec : {M : Type 1} → statement M
 min-f32-spec = tie.close (tie.spec returns returns-2 returns-3 returns-4)

@@ -1,27 +1,16 @@
-use mathlib.Core.Path.{_≡_, refl, ap, _∙_, sym}
-use mathlib.Core.List.{List, [], _∷_, _++_}
-use mathlib.Core.Logic.{⊎-elim}
-use Prim.Native.Nat.{ℕ, zero, suc, _+_, _≤_, _<_, _-_}
-use native.Mathlib.Omega.{arith}
-use native.Mathlib.Numerals.{add-one}
-use lib.ListN.{length, getD, set, take, drop, length-set}
-use borrow.Author.Needs.{needs}
+use mathlib.Core.Path.{refl, _∙_}
+use Rattle.float_bits.proofs.Word.{zero-quotient, nan-word, real-word}
 use Rattle.float_bits.proofs.words.f32_from_word.Statement.{statement}
 use Rattle.float_bits.proofs.words.f32_from_word.Tie as tie
-use Rattle.float_bits.proofs.words.f32_from_word.Reads as reads
-use Rattle.float_bits.proofs.words.f32_from_word.Lts as lts
 
--- src/words.rt:12:9
 returns : tie.Need-returns
-returns c = search needs
+returns c = zero-quotient ∙ nan-word (c .before .args .w) (c .if1 .taken)
 
--- src/words.rt:14:5
 float-from-bits-result : tie.Need-float-from-bits-result
-float-from-bits-result c = search needs
+float-from-bits-result c = real-word (c .before .args .w) (c .if1 .left)
 
--- src/words.rt:7:1
 returns-2 : tie.Need-returns-2
-returns-2 c = search needs
+returns-2 c = refl
 
 pub f32-from-word-spec : {M : Type 1} → statement M
 f32-from-word-spec = tie.close (tie.spec returns float-from-bits-result returns-2)

@@ -1,28 +1,28 @@
-use mathlib.Core.Path.{_≡_, refl, ap, _∙_, sym}
-use mathlib.Core.List.{List, [], _∷_, _++_}
-use mathlib.Core.Logic.{⊎-elim}
-use Prim.Native.Nat.{ℕ, zero, suc, _+_, _≤_, _<_, _-_}
+use mathlib.Core.Path.{_≡_, sym, ap, subst}
+use Prim.Native.Nat.{_^_, _<_}
 use native.Mathlib.Omega.{arith}
-use native.Mathlib.Numerals.{add-one}
-use lib.ListN.{length, getD, set, take, drop, length-set}
-use borrow.Author.Needs.{needs}
+use lib.IntN.{ℤ}
+use lib.Dec.{T}
+use lib.Ieee.{binary32, inFloat, ofInt}
+use Rattle.float_bits.specs.Words.{noiseValue}
+use Rattle.float_bits.proofs.Word.{shifted, step-exact}
 use Rattle.float_bits.proofs.words.noise_value.Statement.{statement}
 use Rattle.float_bits.proofs.words.noise_value.Tie as tie
-use Rattle.float_bits.proofs.words.noise_value.Reads as reads
-use Rattle.float_bits.proofs.words.noise_value.Lts as lts
-use Rattle.float_bits.proofs.words.signed.Reads as signed-reads
 
--- src/words.rt:39:6
-signed-requires : tie.Need-signed-requires
-signed-requires c κs = search needs
+signed-word-requires : tie.Need-signed-word-requires
+signed-word-requires c κs = tt
 
--- src/words.rt:39:5
+word : (c : tie.After-row-known) → c .before .before .args .w < 2 ^ 32
+word c = omega arith
+
 int-to-float-result : tie.Need-int-to-float-result
-int-to-float-result c = search needs
+int-to-float-result c =
+    let w = c .before .before .args .w in
+    subst (λ (z : ℤ). T (inFloat binary32 z)) (sym (shifted w _ (word c) (c .before .signed-word .ensures))) (step-exact w (word c))
 
--- src/words.rt:36:1
 returns : tie.Need-returns
-returns c = search needs
+unfolding noiseValue
+returns c = ap (ofInt binary32) (shifted (c .before .before .args .w) _ (word c) (c .before .signed-word .ensures))
 
 pub noise-value-spec : {M : Type 1} → statement M
-noise-value-spec = tie.close (tie.spec signed-requires int-to-float-result returns)
+noise-value-spec = tie.close (tie.spec signed-word-requires int-to-float-result returns)

@@ -1,27 +1,25 @@
-use mathlib.Core.Path.{_≡_, refl, ap, _∙_, sym}
-use mathlib.Core.List.{List, [], _∷_, _++_}
-use mathlib.Core.Logic.{⊎-elim}
-use Prim.Native.Nat.{ℕ, zero, suc, _+_, _≤_, _<_, _-_}
-use native.Mathlib.Omega.{arith}
-use native.Mathlib.Numerals.{add-one}
-use lib.ListN.{length, getD, set, take, drop, length-set}
 use borrow.Author.Needs.{needs}
+use mathlib.Core.Path.{refl}
+use Prim.Native.Nat.{_-_, _^_, _<_, _≤_}
+use native.Mathlib.Nat.{mul-le-mul, lt-of-le-of-lt}
+use native.Mathlib.Omega.{arith}
+use lib.Dec.{lit<}
+use Rattle.float_bits.specs.Words.{wrappingMul}
 use Rattle.float_bits.proofs.words.wrapping_mul_u32.Statement.{statement}
 use Rattle.float_bits.proofs.words.wrapping_mul_u32.Tie as tie
-use Rattle.float_bits.proofs.words.wrapping_mul_u32.Reads as reads
-use Rattle.float_bits.proofs.words.wrapping_mul_u32.Lts as lts
 
--- src/words.rt:46:16
 mul-wide : tie.Need-mul-wide
-mul-wide c = search needs
+mul-wide c =
+    let a : c .args .a ≤ 2 ^ 32 - 1 = omega arith in
+    let b : c .args .b ≤ 2 ^ 32 - 1 = omega arith in
+    record { fits = lt-of-le-of-lt (mul-le-mul a b) (lit< tt) }
 
--- src/words.rt:47:5
 cast-result : tie.Need-cast-result
 cast-result c = search needs
 
--- src/words.rt:43:1
 returns : tie.Need-returns
-returns c = search needs
+unfolding wrappingMul
+returns c = refl
 
 pub wrapping-mul-u32-spec : {M : Type 1} → statement M
 wrapping-mul-u32-spec = tie.close (tie.spec mul-wide cast-result returns)
