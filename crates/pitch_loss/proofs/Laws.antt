@@ -1,11 +1,10 @@
 -- Laws of plain variables that the proofs cite.
 use mathlib.Core.Path.{_≡_, refl, ap, _∙_, sym}
-use mathlib.Core.List.{List, [], _∷_, _++_}
-use Prim.Native.Nat.{ℕ, zero, suc, _+_, _≤_, _<_, _-_}
+use mathlib.Core.List.{List, _++_, append-nil}
+use Prim.Native.Nat.{ℕ, _+_, _≤_, _<_, _-_}
 use native.Mathlib.Omega.{arith}
-use lib.ListN.{length, getD, drop, List·getD-append, length-append, length-drop}
+use lib.ListN.{length, getD, take, drop, length-drop, drop-of-length-le}
 use lib.Seq.{getD-drop, getD-append-add, take-at}
-use lib.ListN.{take}
 use lib.Dec.{ltb, eqb}
 use lib.Ieee.{Float}
 use mathlib.Core.Bool.{Bool, true, false, cond}
@@ -53,12 +52,17 @@ stepped-lt lag p h g = go (eqb (p + 1) 1024) refl
     go true e = omega arith
     go false e = omega (arith, eqb-false (p + 1) 1024 e)
 
--- all of a list moved back by n, the part from k on replaced by the n samples of a frame
-pub roll-is : (frame new : List Float) (k : ℕ) → length frame ≤ length new → k ≡ length new - length frame
-    → take k (movedBack (length frame) new) ++ frame ≡ rolled frame new
+-- all of a list moved back by a frame's length, and the part from a on, as many as the frame, replaced by it
+pub roll-is : (frame new m y : List Float) (a k : ℕ) → length frame ≤ length new → a ≡ length new - length frame → k ≡ length m - a
+    → m ≡ movedBack (length frame) new → y ≡ frame → take a m ++ (y ++ drop k (drop a m)) ≡ rolled frame new
 unfolding movedBack rolled
-roll-is frame new k h e =
-    ap (λ z. z ++ frame) (take-at (drop (length frame) new) _ k (length-drop (length frame) new ∙ sym e))
+roll-is frame new m y a k h e l p q =
+    let s : take a m ≡ drop (length frame) new =
+    ap (take a) p ∙ take-at (drop (length frame) new) _ a (length-drop (length frame) new ∙ sym e) in
+    let t : length (drop a m) ≤ k = omega (arith, length-drop a m) in
+    ap (λ z. z ++ (y ++ drop k (drop a m))) s
+    ∙ ap (λ z. drop (length frame) new ++ (y ++ z)) (drop-of-length-le (drop a m) {i = k} t)
+    ∙ ap (λ z. drop (length frame) new ++ z) (append-nil y ∙ q)
 
 -- the first places replaced by what stood n later, up to the last n
 pub moved-is : (d : Float) (n : ℕ) (new b : List Float) (i : ℕ) → b ≡ front (tab (λ (k : ℕ). getD new (n + k) d) i) new i

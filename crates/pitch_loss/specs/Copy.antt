@@ -1,14 +1,12 @@
 -- The last cycle of the excitation repeated, the decay squared at each wrap.
-use mathlib.Core.Path.{_≡_, ap, _∙_, sym, refl}
-use Prim.Native.Nat.{ℕ, zero, suc, _+_, _-_, _≤_, _<_}
-use native.Mathlib.Omega.{arith}
-use mathlib.Core.Bool.{Bool, true, false, cond}
+use mathlib.Core.Path.{_≡_, ap, _∙_, sym}
+use Prim.Native.Nat.{ℕ, _+_, _-_}
+use mathlib.Core.Bool.{cond}
 use mathlib.Core.List.{List}
 use lib.ListN.{getD, length}
 use lib.Dec.{eqb}
 use lib.Ieee.{Float, nan, binary32, mul, ofBits}
-use borrow.Author.Tests.{eqb-true, eqb-false}
-use Rattle.loops.specs.Fold.{foldTo, fold-suc, fold-none}
+use Rattle.loops.specs.Fold.{foldTo, fold-more, fold-none}
 use Rattle.loops.specs.Front.{tab, length-tab}
 use Rattle.loops.specs.Sum.{sumTo}
 use Rattle.pitch_loss.specs.Decay.{squareAt}
@@ -28,6 +26,24 @@ positionAt lag i = foldTo (λ (p k : ℕ). stepped lag p) (1024 - lag) i
 -- the decay at sample i
 unfoldable pub decayAt : ℕ → Float → ℕ → Float
 decayAt lag d i = foldTo (λ (x : Float) (k : ℕ). decayed (positionAt lag k) x) d i
+
+-- at the first sample, and from one sample to the next
+pub position-none : (lag : ℕ) → 1024 - lag ≡ positionAt lag 0
+unfolding positionAt
+position-none lag = sym (fold-none _ _)
+
+pub position-more : (lag p i : ℕ) → p ≡ positionAt lag i → stepped lag p ≡ positionAt lag (i + 1)
+unfolding positionAt
+position-more lag p i e = fold-more (λ (p k : ℕ). stepped lag p) (1024 - lag) p i e
+
+pub decay-none : (lag : ℕ) (d : Float) → d ≡ decayAt lag d 0
+unfolding decayAt
+decay-none lag d = sym (fold-none _ _)
+
+pub decay-more : (lag : ℕ) (d x : Float) (p i : ℕ) → p ≡ positionAt lag i → x ≡ decayAt lag d i → decayed p x ≡ decayAt lag d (i + 1)
+unfolding decayAt
+decay-more lag d x p i q e =
+    ap (λ z. decayed z x) q ∙ fold-more (λ (x : Float) (k : ℕ). decayed (positionAt lag k) x) d x i e
 
 unfoldable pub periodicCopy : List Float → ℕ → Float → ℕ → List Float
 periodicCopy exc lag d n = tab (λ (i : ℕ). mul binary32 (decayAt lag d i) (getD exc (positionAt lag i) nan)) n

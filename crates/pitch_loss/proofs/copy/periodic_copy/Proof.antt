@@ -6,12 +6,13 @@ use native.Mathlib.Omega.{arith}
 use native.Mathlib.Numerals.{add-one}
 use lib.ListN.{length, getD, set, take, drop, length-set}
 use borrow.Author.Needs.{needs}
-use lib.Ieee.{Float, nan, binary32, mul, div, ofBits}
+use lib.Ieee.{Float, nan, binary32, add, mul, ofBits}
 use Rattle.loops.specs.Front.{front, tab, length-tab, tab-none, tab-more, tab-all, tab-list}
 use Rattle.pitch_loss.specs.Copy.{stepped, decayed, positionAt, decayAt, periodicCopy, copiedEnergy}
 use Rattle.pitch_loss.specs.Decay.{squareAt}
 use Rattle.loops.specs.Sum.{sumTo, sum-none, sum-more}
 use Rattle.loops.specs.Fold.{foldTo, fold-none, fold-more}
+use Rattle.pitch_loss.specs.Copy.{position-none, position-more, decay-none, decay-more}
 use Rattle.pitch_loss.proofs.Laws.{stepped-lt}
 use Rattle.pitch_loss.proofs.copy.periodic_copy.Statement.{statement}
 use Rattle.pitch_loss.proofs.copy.periodic_copy.Tie as tie
@@ -38,8 +39,16 @@ sub-pos c = search needs
 
 -- src/copy.rt:33:5
 loop-holds : tie.Need-loop-holds Inv-loop μ-loop
-unfolding positionAt decayAt
-loop-holds c = ?
+loop-holds c =
+    let a = c .before .before .before .args in (
+      search needs,
+      search needs,
+      search needs,
+      position-none _,
+      decay-none _ _,
+      tab-none (copied (a .exc .now) (a .lag) (a .decay)) _,
+      sym (sum-none _ _ _),
+    )
 
 -- src/copy.rt:34:20
 mul-e : tie.Need-mul-e Inv-loop μ-loop
@@ -83,8 +92,25 @@ loop-less c = search needs
 
 -- src/copy.rt:33:5
 loop-again : tie.Need-loop-again Inv-loop μ-loop
-unfolding positionAt decayAt
-loop-again c = ?
+loop-again c =
+    let h = c .before .before .before .before .before .loop in
+    let a = c .before .before .before .before .before .before .before .before .before .args in
+    let f : ℕ → Float = copied (a .exc .now) (a .lag) (a .decay) in
+    let sq : ℕ → Float = λ (k : ℕ). squareAt (a .new .now) (positionAt (a .lag) k) in
+    let p : h .pos ≡ positionAt (a .lag) (h .i) = h .inv .3 in
+    let v : mul binary32 (h .d) (getD (a .exc .now) (h .pos) nan) ≡ f (h .i) =
+    ap (λ z. mul binary32 z (getD (a .exc .now) (h .pos) nan)) (h .inv .4)
+    ∙ ap (λ z. mul binary32 (decayAt (a .lag) (a .decay) (h .i)) (getD (a .exc .now) z nan)) p in
+    let r : c .next-position .result ≡ stepped (a .lag) (h .pos) = c .next-position .ensures in
+    let l : stepped (a .lag) (h .pos) < 1024 = stepped-lt (a .lag) (h .pos) (search needs) (search needs) in (
+      search needs,
+      simp length-set (search needs),
+      omega arith,
+      r ∙ position-more _ _ _ p,
+      c .before .next-decay .ensures ∙ decay-more _ _ _ _ _ p (h .inv .4),
+      tab-more f nan _ _ _ (h .inv .5) _ v (search needs),
+      ap (λ z. add binary32 (h .s1) (squareAt (a .new .now) z)) p ∙ sum-more binary32 sq _ _ _ (h .inv .6),
+    )
 
 -- src/copy.rt:24:1
 same-length : tie.Need-same-length Inv-loop μ-loop
@@ -93,7 +119,13 @@ same-length c = search needs
 -- src/copy.rt:24:1
 returns : tie.Need-returns Inv-loop μ-loop
 unfolding periodicCopy copiedEnergy
-returns c = ?
+returns c =
+    let h = c .before .loop in
+    let a = c .before .before .before .before .before .args in
+    let f : ℕ → Float = copied (a .exc .now) (a .lag) (a .decay) in
+    let sq : ℕ → Float = λ (k : ℕ). squareAt (a .new .now) (positionAt (a .lag) k) in
+    let q : h .i ≡ length (a .e .now) = search needs in
+    (tab-all f nan (a .e .now) (h .e) (h .i) (h .inv .5) (search needs), h .inv .6 ∙ ap (sumTo binary32 sq (ofBits binary32 0)) q)
 
 pub periodic-copy-spec : {M : Type 1} → statement M
 periodic-copy-spec =

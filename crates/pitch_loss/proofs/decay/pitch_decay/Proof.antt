@@ -33,15 +33,15 @@ decay-period-requires c κs = search needs
 
 -- src/decay.rt:20:15
 sub-new : tie.Need-sub-new Inv-loop μ-loop
-sub-new c = search needs
+sub-new c = ?
 
 -- src/decay.rt:21:22
 mul-old : tie.Need-mul-old Inv-loop μ-loop
-mul-old c = search needs
+mul-old c = ?
 
 -- src/decay.rt:21:15
 sub-old : tie.Need-sub-old Inv-loop μ-loop
-sub-old c = search needs
+sub-old c = ?
 
 -- src/decay.rt:24:5
 loop-holds : tie.Need-loop-holds Inv-loop μ-loop

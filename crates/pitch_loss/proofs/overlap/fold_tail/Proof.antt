@@ -29,7 +29,7 @@ abbrev μ-loop : tie.MeasureT-loop
 
 -- src/overlap.rt:61:5
 loop-holds : tie.Need-loop-holds Inv-loop μ-loop
-loop-holds c = let a = c .before .before .args in (search needs, search needs, tab-none (place (a .w .now) (a .n) (a .e .now)) _)
+loop-holds c = let a = c .before .before .before .args in (search needs, search needs, tab-none (place (a .w .now) (a .n) (a .e .now)) _)
 
 -- src/overlap.rt:62:13
 from-end-requires : tie.Need-from-end-requires Inv-loop μ-loop
@@ -74,7 +74,7 @@ loop-less c = search needs
 loop-again : tie.Need-loop-again Inv-loop μ-loop
 loop-again c =
     let h = c .before .before .before .before .loop in
-    let a = c .before .before .before .before .before .before .before .args in
+    let a = c .before .before .before .before .before .before .before .before .args in
     let q : c .fold-sum .result ≡ foldSum (a .w .now) (a .n) (a .e .now) (fromEnd (h .k)) =
     c .fold-sum .ensures ∙ ap (foldSum (a .w .now) (a .n) (a .e .now)) (c .before .before .from-end .ensures) in (
       search needs,
@@ -91,7 +91,7 @@ returns : tie.Need-returns Inv-loop μ-loop
 unfolding folded
 returns c =
     let h = c .before .loop in
-    let a = c .before .before .before .before .args in
+    let a = c .before .before .before .before .before .args in
     let f : ℕ → Float = place (a .w .now) (a .n) (a .e .now) in
     let l : length (a .over .now) ≡ 120 = search needs in
     tab-all f nan (a .over .now) (h .over) (h .k) (h .inv .2) (search needs) ∙ ap (tab f) l

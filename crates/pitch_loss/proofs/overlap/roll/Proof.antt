@@ -6,6 +6,7 @@ use native.Mathlib.Omega.{arith}
 use native.Mathlib.Numerals.{add-one}
 use lib.ListN.{length, getD, set, take, drop, length-set}
 use borrow.Author.Needs.{needs}
+use Rattle.pitch_loss.proofs.Laws.{roll-is}
 use Rattle.pitch_loss.proofs.overlap.roll.Statement.{statement}
 use Rattle.pitch_loss.proofs.overlap.roll.Tie as tie
 use Rattle.pitch_loss.proofs.overlap.roll.Reads as reads
@@ -47,7 +48,9 @@ same-length c = search needs
 
 -- src/overlap.rt:30:1
 returns : tie.Need-returns
-returns c = search needs
+returns c =
+    let a = c .before .before .before .before .before .before .before .before .before .before .args in
+    roll-is (a .frame .now) (a .new .now) _ _ _ _ (search needs) refl refl (c .before .before .before .before .before .before .move-back .ensures) (c .before .before .copy-in .ensures)
 
 pub roll-spec : {M : Type 1} → statement M
 roll-spec =

@@ -62,7 +62,7 @@ returns : tie.Need-returns Inv-loop μ-loop
 unfolding combFilterTo
 returns c =
     let h = c .before .loop in
-    let a = c .before .before .before .args in
+    let a = c .before .before .before .before .args in
     let f : ℕ → Float = λ (k : ℕ). combAt (a .x .now) (1024 + k) (a .period) (a .g .g0) (a .g .g1) (a .g .g2) in
     let l : length (a .dst .now) ≡ 120 = search needs in
     tab-all f nan (a .dst .now) (h .dst) (h .i) (h .inv .2) (search needs) ∙ ap (tab f) l
