@@ -3,16 +3,17 @@ use mathlib.Core.Path.{_≡_, refl, ap, _∙_, sym}
 use mathlib.Core.List.{List, _++_, append-nil}
 use Prim.Native.Nat.{ℕ, _+_, _≤_, _<_, _-_}
 use native.Mathlib.Omega.{arith}
-use lib.ListN.{length, getD, take, drop, length-drop, drop-of-length-le}
+use lib.ListN.{length, getD, take, drop, length-drop, drop-of-length-le, replicate}
 use lib.Seq.{getD-drop, getD-append-add, take-at}
 use lib.Dec.{ltb, eqb}
-use lib.Ieee.{Float}
-use mathlib.Core.Bool.{Bool, true, false, cond}
-use borrow.Author.Tests.{ltb-true, eqb-false}
+use lib.Ieee.{Float, binary32, mul, lt, ofBits}
+use mathlib.Core.Bool.{Bool, true, false, cond, not}
+use borrow.Author.Tests.{eqb-false}
 use Rattle.loops.specs.Front.{front, tab, length-tab, tab-same, tab-list}
 use Rattle.pitch_loss.specs.Overlap.{fromEnd, movedBack, rolled}
-use Rattle.pitch_loss.specs.Decay.{decayPeriod}
 use Rattle.pitch_loss.specs.Copy.{stepped}
+use Rattle.pitch_loss.specs.Guard.{scaled, energy, muted, backScale, guardedAt, guarded}
+use Rattle.loops.specs.Pick.{pick-true, pick-false}
 
 -- what stands past the outputs of a loop that fills a list from the front
 pub front-later : {A : Type 0} (d : A) (xs b out : List A) (i k : ℕ) → b ≡ front out xs i → length out ≡ i → i ≤ k → getD b k d ≡ getD xs k d
@@ -33,15 +34,6 @@ fromEnd-lt k h = go (ltb k 60)
     go : (b : Bool) → cond b k (119 - k) < 120
     go true = h
     go false = omega arith
-
--- a period's energies lie within the excitation
-pub decayPeriod-le : (lag : ℕ) → decayPeriod lag ≤ 512
-unfolding decayPeriod
-decayPeriod-le lag = go (ltb lag 512) refl
-  where
-    go : (b : Bool) → ltb lag 512 ≡ b → cond b lag 512 ≤ 512
-    go true e = omega (arith, ltb-true lag 512 e)
-    go false e = omega arith
 
 -- a position of the excitation, and none before the last cycle
 pub stepped-lt : (lag p : ℕ) → p < 1024 → 0 < lag → stepped lag p < 1024
@@ -73,3 +65,29 @@ moved-is d n new b i e h q =
     let t : tab (λ (k : ℕ). getD new (n + k) d) i ≡ drop n new =
     tab-same _ _ i (λ k _. sym (getD-drop n new k d)) ∙ ap (tab (λ (k : ℕ). getD (drop n new) k d)) (sym l) ∙ tab-list d (drop n new) in
     e ∙ ap (λ z. z ++ drop i new) t ∙ ap (λ z. drop n new ++ drop z new) q
+
+-- the guard's three ways, by its two tests
+module _ (s1 s2 : Float) (e y : List Float) (p : s2 ≡ energy e) where
+  pub guard-zeroed : lt (mul binary32 (ofBits binary32 0x3e4c_cccd) s2) s1 ≡ false → y ≡ replicate (length e) (ofBits binary32 0)
+      → (true ≡ muted s1 (energy e)) × (y ≡ guarded s1 e)
+  unfolding guarded guardedAt muted
+  guard-zeroed t q =
+      let m : muted s1 (energy e) ≡ true = ap (muted s1) (sym p) ∙ ap not t in
+      (sym m, q ∙ sym (pick-true _ _ _ m))
+
+  kept : lt (mul binary32 (ofBits binary32 0x3e4c_cccd) s2) s1 ≡ true → muted s1 (energy e) ≡ false
+  unfolding muted
+  kept t = ap (muted s1) (sym p) ∙ ap not t
+
+  pub guard-scaled : lt (mul binary32 (ofBits binary32 0x3e4c_cccd) s2) s1 ≡ true → lt s1 s2 ≡ true → y ≡ scaled (backScale s1 s2) e
+      → (false ≡ muted s1 (energy e)) × (y ≡ guarded s1 e)
+  unfolding guarded guardedAt
+  guard-scaled t u q = (
+    sym (kept t),
+    q ∙ ap (λ z. scaled (backScale s1 z) e) p ∙ sym (pick-false _ _ _ (kept t) ∙ pick-true _ _ _ (ap (lt s1) (sym p) ∙ u)),
+  )
+
+  pub guard-kept : lt (mul binary32 (ofBits binary32 0x3e4c_cccd) s2) s1 ≡ true → lt s1 s2 ≡ false → y ≡ e
+      → (false ≡ muted s1 (energy e)) × (y ≡ guarded s1 e)
+  unfolding guarded guardedAt
+  guard-kept t u q = (sym (kept t), q ∙ sym (pick-false _ _ _ (kept t) ∙ pick-false _ _ _ (ap (lt s1) (sym p) ∙ u)))

@@ -6,7 +6,7 @@ ghost use Rattle.pitch_loss.specs.Decay.{decayPeriod, pitchDecay};
 
 // A period of which two fit the excitation.
 fn decay_period(lag: usize) -> usize
-    ensures { λ r. ⌜ r ≡ decayPeriod lag ⌝ }
+    ensures { λ r. ⌜ (r ≡ decayPeriod lag) × (r ≤ 512) ⌝ }
 {
     if lag < 512 { lag } else { 512 }
 }

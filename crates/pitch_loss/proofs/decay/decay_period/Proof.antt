@@ -17,12 +17,12 @@ use Rattle.pitch_loss.proofs.decay.decay_period.Lts as lts
 -- src/decay.rt:8:1
 returns : tie.Need-returns
 unfolding decayPeriod
-returns c = sym (pick-true _ _ _ (lt-ltb _ _ (c .if1 .taken)))
+returns c = (sym (pick-true _ _ _ (lt-ltb _ _ (c .if1 .taken))), search needs)
 
 -- src/decay.rt:8:1
 returns-2 : tie.Need-returns-2
 unfolding decayPeriod
-returns-2 c = sym (pick-false _ _ _ (le-ltb _ _ (c .if1 .left)))
+returns-2 c = (sym (pick-false _ _ _ (le-ltb _ _ (c .if1 .left))), search needs)
 
 pub decay-period-spec : {M : Type 1} → statement M
 decay-period-spec = tie.close (tie.spec returns returns-2)

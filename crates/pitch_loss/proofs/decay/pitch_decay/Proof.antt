@@ -6,13 +6,12 @@ use native.Mathlib.Omega.{arith}
 use native.Mathlib.Numerals.{add-one}
 use lib.ListN.{length, getD, set, take, drop, length-set}
 use borrow.Author.Needs.{needs}
-use lib.Ieee.{Float, nan, binary32, mul, div, ofBits}
+use lib.Ieee.{Float, binary32, div}
 use Rattle.pitch_loss.specs.Decay.{squareAt, decayPeriod, periodEnergy, decayOf, pitchDecay}
 use Prim.Native.Nat.{_*_}
 use Rattle.loops.specs.Sum.{sumTo, sum-none, sum-more}
 use Rattle.float_bits.specs.Extremes.{minOf}
 use Rattle.float_bits.specs.Root.{sqrtOf}
-use Rattle.pitch_loss.proofs.Laws.{decayPeriod-le}
 use Rattle.pitch_loss.proofs.decay.pitch_decay.Statement.{statement}
 use Rattle.pitch_loss.proofs.decay.pitch_decay.Tie as tie
 use Rattle.pitch_loss.proofs.decay.pitch_decay.Reads as reads
@@ -33,15 +32,15 @@ decay-period-requires c κs = search needs
 
 -- src/decay.rt:20:15
 sub-new : tie.Need-sub-new Inv-loop μ-loop
-sub-new c = ?
+sub-new c = search needs
 
 -- src/decay.rt:21:22
 mul-old : tie.Need-mul-old Inv-loop μ-loop
-mul-old c = ?
+mul-old c = search needs
 
 -- src/decay.rt:21:15
 sub-old : tie.Need-sub-old Inv-loop μ-loop
-sub-old c = ?
+sub-old c = search needs
 
 -- src/decay.rt:24:5
 loop-holds : tie.Need-loop-holds Inv-loop μ-loop
@@ -83,7 +82,14 @@ loop-less c = search needs
 -- src/decay.rt:24:5
 loop-again : tie.Need-loop-again Inv-loop μ-loop
 unfolding periodEnergy
-loop-again c = ?
+loop-again c =
+    let h = c .before .before .before .loop in
+    let exc : List Float = c .before .before .before .before .before .before .args .exc .now in
+    let p : ℕ = c .before .before .before .before .decay-period .result in (
+      search needs,
+      sum-more binary32 (λ (k : ℕ). squareAt exc (1024 - p + k)) _ _ _ (h .inv .1),
+      sum-more binary32 (λ (k : ℕ). squareAt exc (1024 - 2 * p + k)) _ _ _ (h .inv .2),
+    )
 
 -- src/decay.rt:30:9
 min-f32-requires : tie.Need-min-f32-requires Inv-loop μ-loop
@@ -96,7 +102,18 @@ sqrt-f32-requires c κs = search needs
 -- src/decay.rt:15:1
 returns : tie.Need-returns Inv-loop μ-loop
 unfolding pitchDecay decayOf
-returns c = ?
+returns c =
+    let h = c .before .before .before .loop in
+    let a = c .before .before .before .before .before .before .args in
+    let p : ℕ = c .before .before .before .before .decay-period .result in
+    let q : p ≡ decayPeriod (a .lag) = c .before .before .before .before .decay-period .ensures .0 in
+    let i : h .i ≡ p = search needs in
+    let e1 : h .e1 ≡ periodEnergy (a .exc .now) (1024 - p) p = h .inv .1 ∙ ap (periodEnergy (a .exc .now) (1024 - p)) i in
+    let e2 : h .e2 ≡ periodEnergy (a .exc .now) (1024 - 2 * p) p = h .inv .2 ∙ ap (periodEnergy (a .exc .now) (1024 - 2 * p)) i in
+    c .sqrt-f32 .ensures ∙ ap (λ z. sqrtOf (div binary32 z (h .e2))) (c .before .min-f32 .ensures)
+    ∙ ap (λ z. decayOf z (h .e2)) e1
+    ∙ ap (decayOf (periodEnergy (a .exc .now) (1024 - p) p)) e2
+    ∙ ap (λ z. decayOf (periodEnergy (a .exc .now) (1024 - z) z) (periodEnergy (a .exc .now) (1024 - 2 * z) z)) q
 
 pub pitch-decay-spec : {M : Type 1} → statement M
 pitch-decay-spec =

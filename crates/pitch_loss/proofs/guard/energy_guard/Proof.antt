@@ -6,8 +6,9 @@ use native.Mathlib.Omega.{arith}
 use native.Mathlib.Numerals.{add-one}
 use lib.ListN.{length, getD, set, take, drop, length-set}
 use borrow.Author.Needs.{needs}
-use Rattle.loops.specs.Pick.{pick-true, pick-false}
-use Rattle.pitch_loss.specs.Guard.{energy, muted, backScale, guardedAt, guarded}
+use Rattle.pitch_loss.specs.Guard.{scaled, backScale}
+use lib.Ieee.{Float}
+use Rattle.pitch_loss.proofs.Laws.{guard-zeroed, guard-scaled, guard-kept}
 use Rattle.pitch_loss.proofs.guard.energy_guard.Statement.{statement}
 use Rattle.pitch_loss.proofs.guard.energy_guard.Tie as tie
 use Rattle.pitch_loss.proofs.guard.energy_guard.Reads as reads
@@ -35,7 +36,13 @@ same-length c = search needs
 
 -- src/guard.rt:49:9
 returns : tie.Need-returns
-returns c = ?
+unfolding backScale
+returns c =
+    let a = c .before .before .before .before .before .before .before .before .before .before .args in
+    let s2 : Float = c .before .before .before .before .before .before .before .energy-of .result in
+    let q : c .before .before .scale .last .0 ≡ scaled (backScale (a .s1) s2) (a .e .now) =
+    c .before .before .scale .ensures ∙ ap (λ z. scaled z (a .e .now)) (c .before .before .before .before .sqrt-f32 .ensures) in
+    guard-scaled (a .s1) s2 (a .e .now) _ (c .before .before .before .before .before .before .before .energy-of .ensures) (c .before .before .before .before .before .before .if1 .taken) (c .before .before .before .before .before .if2 .taken) q
 
 -- src/guard.rt:49:9
 same-length-2 : tie.Need-same-length-2
@@ -43,7 +50,9 @@ same-length-2 c = search needs
 
 -- src/guard.rt:49:9
 returns-2 : tie.Need-returns-2
-returns-2 c = ?
+returns-2 c =
+    let a = c .before .before .before .before .before .args in
+    guard-kept (a .s1) (c .before .before .energy-of .result) (a .e .now) _ (c .before .before .energy-of .ensures) (c .before .if1 .taken) (c .if2 .left) refl
 
 -- src/guard.rt:51:5
 silence-requires : tie.Need-silence-requires
@@ -55,7 +64,9 @@ same-length-3 c = search needs
 
 -- src/guard.rt:40:1
 returns-3 : tie.Need-returns-3
-returns-3 c = ?
+returns-3 c =
+    let a = c .before .before .before .before .before .before .before .before .args in
+    guard-zeroed (a .s1) (c .before .before .before .before .before .energy-of .result) (a .e .now) _ (c .before .before .before .before .before .energy-of .ensures) (c .before .before .before .before .if1 .left) (c .before .before .silence .ensures)
 
 pub energy-guard-spec : {M : Type 1} → statement M
 energy-guard-spec =
