@@ -2,22 +2,21 @@
 use mathlib.Core.Path.{_≡_, refl, sym, ap, _∙_, subst}
 use mathlib.Core.Logic.{_⊎_, inl, inr}
 use Prim.Native.Nat.{ℕ, zero, suc, _+_, _-_, _*_, _/_, _%_, _^_, _≤_, _<_, zero-le, compare}
-use native.Mathlib.Nat.{le-trans, le-of-eq, lt-of-le-of-lt, lt-of-lt-of-le, lt-of-not-le, not-le-of-lt, eq-or-lt-of-le, mul-comm, mul-assoc, mul-one, mul-right-comm, mul-pos, mul-le-mul, mul-le-mul-right, mul-lt-mul-of-pos-right, lt-of-mul-lt-mul-right, mul-div-cancel, mod-lt, div-add-mod', pow-succ', zero-lt-suc, mul-mul-mul-comm}
+use native.Mathlib.Nat.{le-trans, le-of-eq, lt-of-le-of-lt, lt-of-lt-of-le, lt-of-not-le, not-le-of-lt, eq-or-lt-of-le, mul-assoc, mul-one, mul-right-comm, mul-pos, mul-le-mul, mul-le-mul-right, mul-lt-mul-of-pos-right, lt-of-mul-lt-mul-right, mul-div-cancel, mod-lt, div-add-mod', pow-succ', mul-mul-mul-comm}
 use native.Mathlib.Omega.{arith}
-use mathlib.Core.Bool.{Bool, true, false, not, _&&_, cond}
-use lib.IntN.{ℤ, pos, negsuc}
-use lib.Dec.{T, leb, ltb, eqb, leb→le, ltb→lt, lit<, lit≤}
+use mathlib.Core.Bool.{Bool, true, false, cond}
+use lib.Dec.{T, leb, eqb, lit<, lit≤}
 use lib.Pow.{pow-add, pow-pos, shl-lt}
-use lib.Ieee.{Float, nan, inf, fin, binary32, up, down, size, nearest, units, round, fits, ofBits}
-use lib.Ieee.Fits.{and-l, and-r, down-pos, round-is}
+use lib.Ieee.{Float, nan, inf, fin, binary32, up, down, size, nearest, units, round, ofBits}
+use lib.Ieee.Fits.{down-pos, round-is}
 use lib.Ieee.Exact.{HasValue}
 use lib.Ieee.Nearest.{closest, closest-same, div-same}
 use lib.Ieee.Positive.{positive, value-pos}
-use borrow.Author.Tests.{leb-true, leb-false, eqb-true, eqb-false}
-use Rattle.float_bits.specs.Root.{rootTo, twiceRoot, sqrtOf, NearRoot}
-use Rattle.float_bits.specs.Steps.{ScaledTo, RootBits}
-use Rattle.float_bits.proofs.Laws.{here-or-on, size-exact, sub24, pow-lt-back, nearest-lt, nearest-eq, nearest-gt}
-use Rattle.float_bits.proofs.Roots.{ofBits-units, near-root, some-left, step, start, first-small, Shape, shape, root-up, root-down}
+use borrow.Author.Tests.{leb-true, leb-false, eqb-true}
+use Rattle.float_bits.specs.Root.{rootTo, twiceRoot, sqrtOf}
+use Rattle.float_bits.specs.Steps.{RootBits}
+use Rattle.float_bits.proofs.Laws.{here-or-on, size-exact, sub24, nearest-lt, nearest-gt}
+use Rattle.float_bits.proofs.Roots.{ofBits-units}
 
 -- ---- the root digit by digit
 abbrev RootOf : ℕ → ℕ → Type 0

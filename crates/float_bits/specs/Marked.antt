@@ -1,9 +1,9 @@
 -- The marked edges of square roots and of rounding to f32, by computation.
 use mathlib.Core.Path.{_≡_, refl}
-use Prim.Native.Nat.{ℕ, zero, suc, _+_, _*_, _^_}
-use mathlib.Core.Bool.{true, false}
+use Prim.Native.Nat.{_+_, _^_}
+use mathlib.Core.Bool.{false}
 use lib.IntN.{pos, negsuc}
-use lib.Ieee.{Float, fin, binary32, binary64, ofBits, toBits, round}
+use lib.Ieee.{fin, binary32, toBits, round}
 use Rattle.float_bits.specs.Root.{sqrtOf, twiceRoot, rootTo}
 use Rattle.float_bits.specs.Formats.{narrow}
 

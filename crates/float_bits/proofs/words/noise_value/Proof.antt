@@ -1,11 +1,12 @@
-use mathlib.Core.Path.{_≡_, sym, ap, subst}
+use mathlib.Core.Path.{sym, ap, subst}
 use Prim.Native.Nat.{_^_, _<_}
 use native.Mathlib.Omega.{arith}
 use lib.IntN.{ℤ}
 use lib.Dec.{T}
 use lib.Ieee.{binary32, inFloat, ofInt}
 use Rattle.float_bits.specs.Words.{noiseValue}
-use Rattle.float_bits.proofs.Word.{shifted, step-exact}
+use Rattle.float_bits.proofs.Word.{shifted}
+use Rattle.float_bits.specs.Noise.{noise-held}
 use Rattle.float_bits.proofs.words.noise_value.Statement.{statement}
 use Rattle.float_bits.proofs.words.noise_value.Tie as tie
 
@@ -18,7 +19,7 @@ word c = omega arith
 int-to-float-result : tie.Need-int-to-float-result
 int-to-float-result c =
     let w = c .before .before .args .w in
-    subst (λ (z : ℤ). T (inFloat binary32 z)) (sym (shifted w _ (word c) (c .before .signed-word .ensures))) (step-exact w (word c))
+    subst (λ (z : ℤ). T (inFloat binary32 z)) (sym (shifted w _ (word c) (c .before .signed-word .ensures))) (noise-held w (word c))
 
 returns : tie.Need-returns
 unfolding noiseValue

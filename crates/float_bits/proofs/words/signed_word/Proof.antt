@@ -1,12 +1,13 @@
 use borrow.Author.Needs.{needs}
-use mathlib.Core.Path.{_≡_, sym, ap, _∙_, subst}
-use Prim.Native.Nat.{ℕ, _-_, _^_, _≤_, _<_}
+use mathlib.Core.Path.{sym, ap, _∙_, subst}
+use Prim.Native.Nat.{ℕ, _-_, _^_, _<_}
 use native.Mathlib.Omega.{arith}
-use lib.IntN.{ℤ, negsuc, _-ℤ_}
+use lib.IntN.{ℤ, negsuc}
 use mir.Syntax.{w32}
 use mir.Val.{SFits, toZ, ofZ}
 use mir.Facts.{toZ-pos, toZ-ofZ}
-use Rattle.float_bits.proofs.Word.{low-half, high-half, below-minus}
+use Rattle.float_bits.proofs.Word.{below-minus}
+use Rattle.float_bits.specs.Noise.{signed-low, signed-high}
 use Rattle.float_bits.proofs.words.signed_word.Statement.{statement}
 use Rattle.float_bits.proofs.words.signed_word.Tie as tie
 
@@ -21,7 +22,7 @@ cast-result : tie.Need-cast-result
 cast-result c = search needs
 
 returns : tie.Need-returns
-returns c = toZ-pos w32 (c .if1 .taken) ∙ sym (low-half (c .before .args .w) (c .if1 .taken))
+returns c = toZ-pos w32 (c .if1 .taken) ∙ sym (signed-low (c .before .args .w) (c .if1 .taken))
 
 sub-result : tie.Need-sub-result
 sub-result c = search needs
@@ -39,7 +40,7 @@ returns-2 : tie.Need-returns-2
 returns-2 c =
     ap (λ (z : ℤ). toZ w32 (ofZ w32 z)) (below-minus (rest c) (few c))
     ∙ toZ-ofZ (fits c)
-    ∙ sym (high-half (c .before .args .w) (c .if1 .left) (omega arith))
+    ∙ sym (signed-high (c .before .args .w) (c .if1 .left) (omega arith))
 
 pub signed-word-spec : {M : Type 1} → statement M
 signed-word-spec = tie.close (tie.spec cast-result returns sub-result cast-result-2 sub-result-2 returns-2)

@@ -1,0 +1,81 @@
+-- The inverse transform as a sum of cosines: 2 n outputs from n inputs, n being 120 * 2 ^ lm.
+use mathlib.Core.Path.{_≡_, refl}
+use mathlib.Core.List.{List}
+use mathlib.Core.Bool.{Bool, true, false, cond, _||_, _&&_}
+use Prim.Native.Nat.{ℕ, zero, suc, _+_, _-_, _*_, _/_, _%_, _^_, _≤_}
+use native.Mathlib.Omega.{arith}
+use lib.Dec.{eqb, leb}
+use borrow.Author.Tests.{eq-eqb, ne-eqb}
+use lib.ListN.{length, getD}
+use lib.Ieee.{Float, nan, binary32, binary64, ofBits, mul, neg}
+use Rattle.loops.specs.Sum.{sumTo}
+use Rattle.loops.specs.Front.{tab, length-tab}
+use Rattle.loops.specs.Pick.{pick-true, pick-false}
+use Rattle.float_bits.specs.Formats.{narrow}
+use Rattle.cosine_table.specs.Cosines.{cosines}
+
+-- the cosine of j parts of a circle of 7,680, for j up to 7,680, folded into the first quadrant
+unfoldable pub cosAt : ℕ → Float
+cosAt j =
+    cond (leb j 1920) (getD cosines j nan)
+    (cond (leb j 3840) (neg (getD cosines (3840 - j) nan))
+    (cond (leb j 5760) (neg (getD cosines (j - 3840) nan)) (getD cosines (7680 - j) nan)))
+
+-- the angle of input k in output t, in parts of a circle of 7,680
+unfoldable pub angle : ℕ → ℕ → ℕ → ℕ
+angle n t k = (2 * t + 1 + n) * (2 * k + 1) * (960 / n) % 7680
+
+-- what input k adds to output t
+unfoldable pub imdctTerm : ℕ → List Float → ℕ → ℕ → Float
+imdctTerm n xs t k = mul binary64 (getD xs k nan) (cosAt (angle n t k))
+
+-- output t: half of the sum in f64, rounded to f32
+unfoldable pub imdctAt : ℕ → List Float → ℕ → Float
+imdctAt n xs t = narrow (mul binary64 (ofBits binary64 0x3fe0_0000_0000_0000) (sumTo binary64 (imdctTerm n xs t) (ofBits binary64 0) n))
+
+unfoldable pub imdct : ℕ → List Float → List Float
+imdct n xs = tab (imdctAt n xs) (2 * n)
+
+pub length-imdct : (n : ℕ) (xs : List Float) → length (imdct n xs) ≡ 2 * n
+unfolding imdct
+length-imdct n xs = length-tab _ (2 * n)
+
+-- n is 120 * 2 ^ lm for an lm up to 3
+unfoldable pub frameSize : ℕ → Bool
+frameSize n = eqb n (120 * 2 ^ 0) || eqb n (120 * 2 ^ 1) || eqb n (120 * 2 ^ 2) || eqb n (120 * 2 ^ 3)
+
+pub frame-size : (lm : ℕ) → lm ≤ 3 → frameSize (120 * 2 ^ lm) ≡ true
+unfolding frameSize
+frame-size zero h = refl
+frame-size (suc zero) h = refl
+frame-size (suc (suc zero)) h = refl
+frame-size (suc (suc (suc zero))) h = refl
+frame-size (suc (suc (suc (suc lm)))) h = let z : ⊥ = omega arith in absurd z
+
+-- whether imdct_naive_f32 takes n inputs and room for m outputs
+unfoldable pub imdctTakes : ℕ → ℕ → Bool
+imdctTakes n m = frameSize n && eqb m (2 * n)
+
+pub takes : (n m : ℕ) → frameSize n ≡ true → m ≡ 2 * n → imdctTakes n m ≡ true
+unfolding imdctTakes
+takes n m e h = simp (e, eq-eqb m (2 * n) h)
+
+pub takes-no-size : (n m : ℕ) → frameSize n ≡ false → imdctTakes n m ≡ false
+unfolding imdctTakes
+takes-no-size n m e = simp e
+
+pub takes-no-room : (n m : ℕ) → frameSize n ≡ true → (m ≡ 2 * n → ⊥) → imdctTakes n m ≡ false
+unfolding imdctTakes
+takes-no-room n m e h = simp (e, ne-eqb m (2 * n) h)
+
+-- what it leaves in out: the outputs, or out as it was
+unfoldable pub imdctLeaves : List Float → List Float → List Float
+imdctLeaves xs out = cond (imdctTakes (length xs) (length out)) (imdct (length xs) xs) out
+
+pub leaves-outputs : (xs out : List Float) → imdctTakes (length xs) (length out) ≡ true → imdctLeaves xs out ≡ imdct (length xs) xs
+unfolding imdctLeaves
+leaves-outputs xs out e = pick-true _ _ _ e
+
+pub leaves-out : (xs out : List Float) → imdctTakes (length xs) (length out) ≡ false → imdctLeaves xs out ≡ out
+unfolding imdctLeaves
+leaves-out xs out e = pick-false _ _ _ e

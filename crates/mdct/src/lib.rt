@@ -1,0 +1,3 @@
+// The window and the inverse transform.
+pub mod imdct;
+pub mod window;
