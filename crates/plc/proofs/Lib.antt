@@ -1,0 +1,4 @@
+-- laws that several proofs cite
+mod Lags
+mod Taps
+mod Turn

@@ -1,0 +1,60 @@
+use mathlib.Core.Path.{_≡_, refl, ap, _∙_, sym}
+use mathlib.Core.List.{List, [], _∷_, _++_}
+use mathlib.Core.Logic.{⊎-elim}
+use Prim.Native.Nat.{ℕ, zero, suc, _+_, _≤_, _<_, _-_}
+use native.Mathlib.Omega.{arith}
+use native.Mathlib.Numerals.{add-one}
+use lib.ListN.{length, getD, set, take, drop, length-set}
+use borrow.Author.Needs.{needs}
+use Rattle.plc.proofs.autocorr.celt_autocorr.Statement.{statement}
+use Rattle.plc.proofs.autocorr.celt_autocorr.Tie as tie
+use Rattle.plc.proofs.autocorr.celt_autocorr.Reads as reads
+use Rattle.plc.proofs.autocorr.celt_autocorr.Lts as lts
+use Rattle.plc.proofs.autocorr.by_lag.Reads as by-lag-reads
+use Rattle.plc.proofs.autocorr.first_terms.Reads as first-terms-reads
+use Rattle.plc.proofs.autocorr.other_terms.Reads as other-terms-reads
+
+-- src/autocorr.rt:57:20
+slice-aggregate-first-terms : tie.Need-slice-aggregate-first-terms
+slice-aggregate-first-terms c = search needs
+
+-- src/autocorr.rt:57:5
+first-terms-requires : tie.Need-first-terms-requires
+first-terms-requires c κs = search needs
+
+-- src/autocorr.rt:58:20
+slice-aggregate-other-terms : tie.Need-slice-aggregate-other-terms
+slice-aggregate-other-terms c = search needs
+
+-- src/autocorr.rt:58:5
+other-terms-requires : tie.Need-other-terms-requires
+other-terms-requires c κs = search needs
+
+-- src/autocorr.rt:60:15
+slice-aggregate-by-lag : tie.Need-slice-aggregate-by-lag
+slice-aggregate-by-lag c = search needs
+
+-- src/autocorr.rt:60:21
+slice-aggregate-by-lag-2 : tie.Need-slice-aggregate-by-lag-2
+slice-aggregate-by-lag-2 c = search needs
+
+-- src/autocorr.rt:60:5
+by-lag-requires : tie.Need-by-lag-requires
+by-lag-requires c κs = search needs
+
+-- src/autocorr.rt:53:1
+returns : tie.Need-returns
+returns c = search needs
+
+pub celt-autocorr-spec : {M : Type 1} → statement M
+celt-autocorr-spec =
+    tie.close
+    (tie.spec
+    slice-aggregate-first-terms
+    first-terms-requires
+    slice-aggregate-other-terms
+    other-terms-requires
+    slice-aggregate-by-lag
+    slice-aggregate-by-lag-2
+    by-lag-requires
+    returns)

@@ -1,0 +1,14 @@
+-- the float constants of plc.rs
+use lib.Ieee.{Float, binary32, ofBits}
+
+-- 0.0
+abbrev pub zero32 : Float
+zero32 = ofBits binary32 0
+
+-- 10.0, the noise floor of the first correlation
+abbrev pub floor32 : Float
+floor32 = ofBits binary32 0x4120_0000
+
+-- 0.001, the part of the first correlation at which the predictor stops
+abbrev pub small32 : Float
+small32 = ofBits binary32 0x3a83_126f

@@ -1,0 +1,73 @@
+// The all-pole filter of order 24.
+ghost use mathlib.Core.Path.{_≡_};
+ghost use mathlib.Core.Bool.{cond};
+ghost use Prim.Native.Nat.{ℕ, _+_, _-_, _≤_, _<_};
+ghost use lib.ListN.{length};
+ghost use Rattle.plc.specs.Iir.{celtIir, iirTakes, iirPairTakes};
+ghost use Rattle.plc.specs.Pad.{tapsTaken};
+
+// x less the 24 taps before sample i, in order.
+fn less_taps(den: &[f32], pad: &[f32], i: usize, x: f32) -> f32
+    requires { ⌜ (length (now den) ≡ 24) × (24 + i ≤ length (now pad)) ⌝ }
+    ensures { λ r. ⌜ r ≡ tapsTaken (now (den .entry)) (now (pad .entry)) i x 24 ⌝ }
+{
+    let mut sum = x;
+    for j in 0..24 {
+        sum = sum - den[j] * pad[23 + i - j];
+    }
+    sum
+}
+
+// Filters buf; mem has the outputs before its start, the most recent first. More than 1,200 samples are refused, and buf stays.
+pub fn celt_iir_inplace(buf: &mut [f32], den: &[f32; 24], mem: &[f32; 24]) -> bool
+    ensures { λ r. ⌜ (r ≡ iirTakes (length (now (buf .entry))))
+        × (now (buf .exit) ≡ cond (iirTakes (length (now (buf .entry)))) (celtIir (now (den .entry)) (now (mem .entry)) (now (buf .entry))) (now (buf .entry))) ⌝ }
+{
+    let n = buf.len();
+    if 1200 < n {
+        return false;
+    }
+    let mut y = [0.0f32; 1224];
+    crate::pad::remember(&mut y, mem);
+    for i in 0..n {
+        let sum = less_taps(den, &y, i, buf[i]);
+        y[24 + i] = sum;
+        buf[i] = sum;
+    }
+    true
+}
+
+// Two channels of one length side by side: the second runs in the time of the first. Other lengths are refused, and both stay.
+pub fn celt_iir_pair(
+    a: &mut [f32],
+    b: &mut [f32],
+    den_a: &[f32; 24],
+    den_b: &[f32; 24],
+    mem_a: &[f32; 24],
+    mem_b: &[f32; 24],
+) -> bool
+    ensures { λ r. ⌜ (r ≡ iirPairTakes (length (now (a .entry))) (length (now (b .entry))))
+        × (now (a .exit) ≡ cond (iirPairTakes (length (now (a .entry))) (length (now (b .entry)))) (celtIir (now («den_a» .entry)) (now («mem_a» .entry)) (now (a .entry))) (now (a .entry)))
+        × (now (b .exit) ≡ cond (iirPairTakes (length (now (a .entry))) (length (now (b .entry)))) (celtIir (now («den_b» .entry)) (now («mem_b» .entry)) (now (b .entry))) (now (b .entry))) ⌝ }
+{
+    let n = a.len();
+    if n != b.len() {
+        return false;
+    }
+    if 1200 < n {
+        return false;
+    }
+    let mut y = [0.0f32; 1224];
+    let mut z = [0.0f32; 1224];
+    crate::pad::remember(&mut y, mem_a);
+    crate::pad::remember(&mut z, mem_b);
+    for i in 0..n {
+        let sum_a = less_taps(den_a, &y, i, a[i]);
+        let sum_b = less_taps(den_b, &z, i, b[i]);
+        y[24 + i] = sum_a;
+        z[24 + i] = sum_b;
+        a[i] = sum_a;
+        b[i] = sum_b;
+    }
+    true
+}
