@@ -1,0 +1,28 @@
+use mathlib.Core.Path.{_≡_, refl, ap, _∙_, sym}
+use mathlib.Core.List.{List, [], _∷_, _++_}
+use mathlib.Core.Logic.{⊎-elim}
+use Prim.Native.Nat.{ℕ, zero, suc, _+_, _≤_, _<_, _-_}
+use native.Mathlib.Omega.{arith}
+use native.Mathlib.Numerals.{add-one}
+use lib.ListN.{length, getD, set, take, drop, length-set}
+use borrow.Author.Needs.{needs}
+use Rattle.plc_pitch.proofs.best.consider.Statement.{statement}
+use Rattle.plc_pitch.proofs.best.consider.Tie as tie
+use Rattle.plc_pitch.proofs.best.consider.Reads as reads
+use Rattle.plc_pitch.proofs.best.consider.Lts as lts
+use Rattle.plc_pitch.proofs.best.candidate.Reads as candidate-reads
+
+-- src/best.rt:55:9
+candidate-requires : tie.Need-candidate-requires
+candidate-requires c κs = search needs
+
+-- src/best.rt:51:1
+returns : tie.Need-returns
+returns c = search needs
+
+-- src/best.rt:51:1
+returns-2 : tie.Need-returns-2
+returns-2 c = search needs
+
+pub consider-spec : {M : Type 1} → statement M
+consider-spec = tie.close (tie.spec candidate-requires returns returns-2)
