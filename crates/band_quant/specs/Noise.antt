@@ -1,0 +1,23 @@
+-- A band of noise: value i is that of the seed i + 1 draws on.
+use mathlib.Core.Path.{_≡_}
+use mathlib.Core.List.{List}
+use Prim.Native.Nat.{ℕ, _+_, _<_}
+use lib.ListN.{length, getD}
+use lib.Ieee.{Float}
+use Rattle.loops.specs.Front.{tab, length-tab, getD-tab}
+use Rattle.float_bits.specs.Words.{noiseValue}
+use Rattle.band_quant.specs.Draw.{draws}
+
+abbrev pub noiseAt : ℕ → ℕ → Float
+noiseAt seed i = noiseValue (draws (i + 1) seed)
+
+unfoldable pub noiseBand : ℕ → ℕ → List Float
+noiseBand n seed = tab (noiseAt seed) n
+
+pub length-noiseBand : (n seed : ℕ) → length (noiseBand n seed) ≡ n
+unfolding noiseBand
+length-noiseBand n seed = length-tab (noiseAt seed) n
+
+pub getD-noiseBand : (n seed i : ℕ) (d : Float) → i < n → getD (noiseBand n seed) i d ≡ noiseAt seed i
+unfolding noiseBand
+getD-noiseBand n seed i d h = getD-tab (noiseAt seed) n i d h

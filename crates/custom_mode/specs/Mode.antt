@@ -1,0 +1,37 @@
+-- The tables of the standard mode. What stands past a table's end is said with each.
+use mathlib.Core.List.{List, [], _∷_}
+use Prim.Native.Nat.{ℕ, zero, suc}
+use lib.ListN.{getD}
+use lib.Ieee.{Float, ofBits, binary32}
+
+-- the band edges, in bins of the shortest block; past the last 100
+unfoldable pub edges : List ℕ
+edges = 0 ∷ 1 ∷ 2 ∷ 3 ∷ 4 ∷ 5 ∷ 6 ∷ 7 ∷ 8 ∷ 10 ∷ 12 ∷ 14 ∷ 16 ∷ 20 ∷ 24 ∷ 28 ∷ 34 ∷ 40 ∷ 48 ∷ 60 ∷ 78 ∷ 100 ∷ []
+
+unfoldable pub edge : ℕ → ℕ
+edge i = getD edges i 100
+
+abbrev f32 : ℕ → Float
+f32 b = ofBits binary32 b
+
+-- the mean energy of each band; past the last +0
+unfoldable pub means : List Float
+means =
+    f32 0x40ce_0000 ∷ f32 0x40c8_0000 ∷ f32 0x40b8_0000 ∷ f32 0x40aa_0000 ∷ f32 0x40a2_0000
+    ∷ f32 0x409a_0000 ∷ f32 0x4090_0000 ∷ f32 0x408c_0000 ∷ f32 0x409c_0000 ∷ f32 0x4096_0000
+    ∷ f32 0x4092_0000 ∷ f32 0x408e_0000 ∷ f32 0x409c_0000 ∷ f32 0x4094_0000 ∷ f32 0x408a_0000
+    ∷ f32 0x4090_0000 ∷ f32 0x408c_0000 ∷ f32 0x4094_0000 ∷ f32 0x4098_0000 ∷ f32 0x408e_0000
+    ∷ f32 0x4070_0000 ∷ f32 0x4070_0000 ∷ f32 0x4070_0000 ∷ f32 0x4070_0000 ∷ f32 0x4070_0000 ∷ []
+
+unfoldable pub mean : ℕ → Float
+mean i = getD means i (f32 0)
+
+-- the post-filter's three tap factors by tapset; past the last those of the last
+unfoldable pub combGains : ℕ → List Float
+combGains zero = f32 0x3e9d_0000 ∷ f32 0x3e5e_4000 ∷ f32 0x3e04_c000 ∷ []
+combGains (suc zero) = f32 0x3eed_8000 ∷ f32 0x3e89_4000 ∷ f32 0 ∷ []
+combGains (suc (suc n)) = f32 0x3f4c_c000 ∷ f32 0x3dcd_0001 ∷ f32 0 ∷ []
+
+-- the de-emphasis: 0.8500061, 0, 1, 1
+unfoldable pub preemph : List Float
+preemph = f32 0x3f59_9a00 ∷ f32 0 ∷ f32 0x3f80_0000 ∷ f32 0x3f80_0000 ∷ []

@@ -1,0 +1,99 @@
+// The standard mode: constants and tables. An accessor answers at every index; past a table's end it says what.
+ghost use mathlib.Core.Path.{_≡_};
+ghost use Rattle.custom_mode.specs.Mode.{edge, mean, combGains, preemph};
+
+pub const SHORT_BLOCK: usize = 120;
+
+pub const OVERLAP: usize = 120;
+
+pub const BANDS: usize = 21;
+
+// Limits of the post-filter's period.
+pub const MIN_PERIOD: u32 = 15;
+
+pub const MAX_PERIOD: u32 = 1_022;
+
+const EDGES: [usize; 22] = [
+    0,
+    1,
+    2,
+    3,
+    4,
+    5,
+    6,
+    7,
+    8,
+    10,
+    12,
+    14,
+    16,
+    20,
+    24,
+    28,
+    34,
+    40,
+    48,
+    60,
+    78,
+    100,
+];
+
+const E_MEANS: [f32; 25] = [
+    6.4375,
+    6.25,
+    5.75,
+    5.3125,
+    5.0625,
+    4.8125,
+    4.5,
+    4.375,
+    4.875,
+    4.6875,
+    4.5625,
+    4.4375,
+    4.875,
+    4.625,
+    4.3125,
+    4.5,
+    4.375,
+    4.625,
+    4.75,
+    4.4375,
+    3.75,
+    3.75,
+    3.75,
+    3.75,
+    3.75,
+];
+
+// The edge numbered i, in bins of the shortest block; 100 past the last.
+pub fn band_edge(i: usize) -> usize
+    ensures { λ r. ⌜ r ≡ edge i ⌝ }
+{
+    if i < 22 { EDGES[i] } else { 100 }
+}
+
+// The mean energy of band i; +0 past the last.
+pub fn mean_energy(i: usize) -> f32
+    ensures { λ r. ⌜ r ≡ mean i ⌝ }
+{
+    if i < 25 { E_MEANS[i] } else { 0.0 }
+}
+
+// The post-filter's tap factors; a tapset above 2 counts as 2.
+pub fn comb_gains(tapset: u32) -> [f32; 3]
+    ensures { λ r. ⌜ r ≡ combGains tapset ⌝ }
+{
+    match tapset {
+        0 => [0.30664062, 0.21704102, 0.12963867],
+        1 => [0.4638672, 0.2680664, 0.0],
+        _ => [0.7998047, 0.10009766, 0.0],
+    }
+}
+
+// The de-emphasis coefficients.
+pub fn deemphasis() -> [f32; 4]
+    ensures { λ r. ⌜ r ≡ preemph ⌝ }
+{
+    [0.8500061, 0.0, 1.0, 1.0]
+}
