@@ -46,7 +46,7 @@ stepped-lt lag p h g = go (eqb (p + 1) 1024) refl
 
 -- all of a list moved back by a frame's length, and the part from a on, as many as the frame, replaced by it
 pub roll-is : (frame new m y : List Float) (a k : ℕ) → length frame ≤ length new → a ≡ length new - length frame → k ≡ length m - a
-    → m ≡ movedBack (length frame) new → y ≡ frame → take a m ++ (y ++ drop k (drop a m)) ≡ rolled frame new
+    → m ≡ movedBack (length frame) new → y ≡ frame → take a m ++ (y ++ drop k (drop a m)) ≡ rolled (length frame) frame new
 unfolding movedBack rolled
 roll-is frame new m y a k h e l p q =
     let s : take a m ≡ drop (length frame) new =

@@ -5,3 +5,6 @@ pub mod Copy
 pub mod Guard
 pub mod Overlap
 pub mod Prefilter
+pub mod Fit
+pub mod Extrapolate
+pub mod Loss

@@ -9,13 +9,13 @@ use lib.Dec.{ltb}
 use lib.Ieee.{Float, nan, binary32, add, mul}
 use Rattle.loops.specs.Front.{tab, length-tab}
 
--- the oldest samples make room and the frame comes in as the newest
-unfoldable pub rolled : List Float → List Float → List Float
-rolled frame new = drop (length frame) new ++ frame
+-- n samples make room at the oldest end, and a frame of n comes in as the newest
+unfoldable pub rolled : ℕ → List Float → List Float → List Float
+rolled n frame new = drop n new ++ frame
 
-pub length-rolled : (frame new : List Float) → length frame ≤ length new → length (rolled frame new) ≡ length new
+pub length-rolled : (n : ℕ) (frame new : List Float) → length frame ≡ n → n ≤ length new → length (rolled n frame new) ≡ length new
 unfolding rolled
-length-rolled frame new h = omega (arith, length-append (drop (length frame) new) frame, length-drop (length frame) new)
+length-rolled n frame new e h = omega (arith, length-append (drop n new) frame, length-drop n new)
 
 -- all but the first n moved to the start; the last n still stand
 unfoldable pub movedBack : ℕ → List Float → List Float

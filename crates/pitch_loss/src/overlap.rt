@@ -29,7 +29,7 @@ fn move_back(new: &mut [f32], n: usize)
 // Moves new back by a frame and takes the frame in at its newest end.
 pub(crate) fn roll(new: &mut [f32], frame: &[f32])
     requires { ⌜ length (now frame) ≤ length (now new) ⌝ }
-    ensures { λ _. ⌜ now (new .exit) ≡ rolled (now (frame .entry)) (now (new .entry)) ⌝ }
+    ensures { λ _. ⌜ now (new .exit) ≡ rolled (length (now (frame .entry))) (now (frame .entry)) (now (new .entry)) ⌝ }
 {
     let n = frame.len();
     let kept = new.len() - n;

@@ -59,7 +59,7 @@ loop-less c = search needs
 
 -- src/autocorr.rt:46:5
 loop-again : tie.Need-loop-again Inv-loop μ-loop
-loop-again c =     let h = c .before .before .loop in
+loop-again c = let h = c .before .before .loop in
     let a = c .before .before .before .args in (
       search needs,
       simp length-set (search needs),
@@ -81,7 +81,7 @@ same-length c = simp length-set (search needs)
 
 -- src/autocorr.rt:41:1
 returns : tie.Need-returns Inv-loop μ-loop
-returns c =     let h = c .before .before .loop in
+returns c = let h = c .before .before .loop in
     let a = c .before .before .before .args in
     floored (a .x .now) (length (a .ac .now)) (h .ac)
     (tab-all (lagSum (a .x .now)) nan (a .ac .now) (h .ac) (h .lag) (h .inv .2) (search needs)) (search needs)

@@ -73,7 +73,7 @@ loop2-less c = search needs
 
 -- src/autocorr.rt:17:9
 loop2-again : tie.Need-loop2-again Inv-loop2 μ-loop2 Inv-loop μ-loop
-loop2-again c =     let h2 = c .before .before .before .loop2 in
+loop2-again c = let h2 = c .before .before .before .loop2 in
     (search needs, search needs, lag-more _ _ (h2 .i) _ (h2 .d) (h2 .inv .0) refl (h2 .inv .2))
 
 -- src/autocorr.rt:20:9
@@ -94,7 +94,7 @@ loop-less c = search needs
 
 -- src/autocorr.rt:14:5
 loop-again : tie.Need-loop-again Inv-loop2 μ-loop2 Inv-loop μ-loop
-loop-again c =     let h2 = c .before .loop2 in
+loop-again c = let h2 = c .before .loop2 in
     let h = c .before .before .before .loop in
     let a = c .before .before .before .before .args in
     let e : h2 .i ≡ length (a .row .now) - 1 = search needs in (
@@ -110,7 +110,7 @@ same-length c = search needs
 
 -- src/autocorr.rt:8:1
 returns : tie.Need-returns Inv-loop2 μ-loop2 Inv-loop μ-loop
-returns c =     let h = c .before .loop in
+returns c = let h = c .before .loop in
     let a = c .before .before .args in
     tab-all (rowAt (a .x .now) (length (a .row .now)) (length (a .row .now) - 1)) nan (a .row .now) (h .row) (h .j) (h .inv .2) (search needs)
 

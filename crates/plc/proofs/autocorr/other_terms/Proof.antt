@@ -89,7 +89,7 @@ loop2-less c = search needs
 
 -- src/autocorr.rt:34:9
 loop2-again : tie.Need-loop2-again Inv-loop2 μ-loop2 Inv-loop μ-loop
-loop2-again c =     let h2 = c .before .before .before .loop2 in
+loop2-again c = let h2 = c .before .before .before .loop2 in
     let h = c .before .before .before .before .before .before .loop in
     let a = c .before .before .before .before .before .before .before .args in (
       search needs,
@@ -107,7 +107,7 @@ loop-less c = search needs
 
 -- src/autocorr.rt:32:5
 loop-again : tie.Need-loop-again Inv-loop2 μ-loop2 Inv-loop μ-loop
-loop-again c =     let h2 = c .before .loop2 in
+loop-again c = let h2 = c .before .loop2 in
     let h = c .before .before .before .before .loop in
     let a = c .before .before .before .before .before .args in
     let e : length (h .row) ≡ h2 .j = search needs in
@@ -125,7 +125,7 @@ same-length c = search needs
 
 -- src/autocorr.rt:25:1
 returns : tie.Need-returns Inv-loop2 μ-loop2 Inv-loop μ-loop
-returns c =     let h = c .before .loop in
+returns c = let h = c .before .loop in
     let a = c .before .before .args in
     let e : h .i ≡ length (a .x .now) = search needs in
     h .inv .3 ∙ ap (lagRow (a .x .now) (length (a .row .now))) e

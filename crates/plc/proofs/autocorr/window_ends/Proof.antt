@@ -106,7 +106,7 @@ same-length c = search needs
 
 -- src/autocorr.rt:65:1
 returns : tie.Need-returns Inv-loop μ-loop
-returns c =     let h = c .before .loop in
+returns c = let h = c .before .loop in
     let a = c .before .before .args in
     let e : h .i ≡ length (a .window .now) = search needs in
     h .inv .2 ∙ ap (foldTo (windowTurn (a .x .now) (a .window .now)) (a .x .now)) e

@@ -62,7 +62,7 @@ loop-again c = (search needs, fold-more _ _ _ _ (c .before .before .before .loop
 
 -- src/iir.rt:10:1
 returns : tie.Need-returns Inv-loop μ-loop
-returns c =     let h = c .before .loop in
+returns c = let h = c .before .loop in
     let a = c .before .before .args in
     let e : h .j ≡ 24 = search needs in
     h .inv .1 ∙ ap (tapsTaken (a .den .now) (a .pad .now) (a .i) (a .x)) e

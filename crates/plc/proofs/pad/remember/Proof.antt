@@ -54,7 +54,7 @@ loop-less c = search needs
 
 -- src/pad.rt:13:5
 loop-again : tie.Need-loop-again Inv-loop μ-loop
-loop-again c =     let h = c .before .before .loop in
+loop-again c = let h = c .before .before .loop in
     (search needs, simp length-set (search needs), remember-more _ (h .pad) (h .k) (h .inv .2) (search needs) (search needs))
 
 -- src/pad.rt:8:1
@@ -63,7 +63,7 @@ same-length c = search needs
 
 -- src/pad.rt:8:1
 returns : tie.Need-returns Inv-loop μ-loop
-returns c =     let h = c .before .loop in
+returns c = let h = c .before .loop in
     let e : length (c .before .before .args .mem .now) ≡ h .k = search needs in
     λ k l. h .inv .2 k (omega arith)
 
