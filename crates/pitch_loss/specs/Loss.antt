@@ -5,7 +5,7 @@ use native.Mathlib.Omega.{arith}
 use mathlib.Core.Bool.{Bool, true, _&&_}
 use mathlib.Core.List.{List, _++_}
 use lib.ListN.{length, take, drop}
-use lib.Seq.{slice, length-take-le}
+use lib.Seq.{length-take-le}
 use lib.Dec.{eqb, leb}
 use lib.Ieee.{Float}
 use Rattle.mdct.specs.Window.{window}
@@ -34,21 +34,24 @@ pub length-over : (n : ℕ) (t : Tail) (lag : ℕ) (first : Bool) (c : List Floa
 unfolding pitchSynth
 length-over n t lag first c f = length-preFiltered f _ _ (length-folded _ _ _)
 
--- what a loss may read of a channel's 2,168
-unfoldable pub tailOf : List Float → Tail
-tailOf h = record { new = slice 1024 2048 h; over = drop 2048 h }
+-- the tail after the frame came in
+unfoldable pub tailAfter : ℕ → Tail → ℕ → Bool → List Float → Filter → Tail
+tailAfter n t lag first c f =
+    let y = pitchSynth n t lag first c f in record { new = rolled n (y .samples) (t .new); over = y .over }
 
--- the tail after it
-unfoldable pub tailAfter : ℕ → Tail → Synth → Tail
-tailAfter n t y = record { new = rolled n (y .samples) (t .new); over = y .over }
+-- a tail as the 1,144 samples that it is, and back
+unfoldable pub tailNow : List Float → Tail
+tailNow x = record { new = take 1024 x; over = drop 1024 x }
 
--- the oldest 1,024 stay
-unfoldable pub withTail : List Float → Tail → List Float
-withTail h t = take 1024 h ++ (t .new ++ t .over)
+unfoldable pub tailList : Tail → List Float
+tailList t = t .new ++ t .over
 
+unfoldable pub concealedTail : ℕ → List Float → ℕ → Bool → List Float → Filter → List Float
+concealedTail n x lag first c f = tailList (tailAfter n (tailNow x) lag first c f)
+
+-- a channel's 2,168 samples: the oldest 1,024 stay
 unfoldable pub pitchLoss : ℕ → List Float → ℕ → Bool → List Float → Filter → List Float
-pitchLoss lm h lag first c f =
-    withTail h (tailAfter (frameSize lm) (tailOf h) (pitchSynth (frameSize lm) (tailOf h) lag first c f))
+pitchLoss lm h lag first c f = take 1024 h ++ concealedTail (frameSize lm) (drop 1024 h) lag first c f
 
 -- what is taken: 2,168 samples, 24 coefficients, lm to 3, lag 102 to 720, period 15 to 1,022, tapset to 2
 unfoldable pub accepts : ℕ → ℕ → ℕ → ℕ → Filter → Bool

@@ -1,6 +1,9 @@
-// What one accepted pitch loss does to one channel.
+// What one accepted pitch loss does to one channel: its predictor, and its 2,168 samples, 2,048 oldest first and 120 of overlap.
+pub mod channel;
 mod copy;
 mod decay;
+mod extrapolate;
+pub mod fit;
 mod guard;
 mod overlap;
 mod prefilter;
