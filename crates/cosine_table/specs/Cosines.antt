@@ -1,6 +1,8 @@
 -- The f64 nearest to cos(j pi / 3840), for j from 0 to 1920, by their bits.
 use Prim.Native.Nat.{ℕ}
 use mathlib.Core.List.{List, [], _∷_, map}
+use mathlib.Core.Path.{_≡_, refl}
+use lib.ListN.{length}
 use lib.Ieee.{Float, binary64, ofBits}
 
 unfoldable pub cosineBits : List ℕ
@@ -1930,3 +1932,7 @@ cosineBits =
 
 unfoldable pub cosines : List Float
 cosines = map (ofBits binary64) cosineBits
+
+pub length-cosines : length cosines ≡ 1921
+unfolding cosines cosineBits
+length-cosines = refl

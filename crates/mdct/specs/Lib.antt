@@ -1,2 +1,4 @@
+-- The window and the inverse transform.
 pub mod Window
+pub mod WindowRules
 pub mod Imdct
