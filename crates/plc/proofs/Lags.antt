@@ -51,3 +51,7 @@ unfolding celtAutocorr
 floored x n ac e h =
     ap (λ z. set z 0 (add binary32 (getD z 0 nan) floor32)) e
     ∙ ap (λ z. set (tab (lagSum x) n) 0 (add binary32 z floor32)) (getD-tab (lagSum x) n 0 nan h)
+
+-- a row of lags knows how many it has
+pub row-size : (x row : List Float) (n end : ℕ) → row ≡ lagRow x n end → length row ≡ n
+row-size x row n end e = ap length e ∙ length-tab (rowAt x n end) n

@@ -7,11 +7,13 @@ use native.Mathlib.Omega.{arith}
 use lib.Dec.{eqb, ltb}
 use lib.ListN.{length, getD, set}
 use lib.Seq.{getD-set-same, getD-set-other}
-use lib.Ieee.{Float, nan, binary32, sub, mul}
+use lib.Ieee.{Float, nan, binary32, add, sub, mul}
 use borrow.Author.Tests.{eqb-true, eqb-false, ltb-true, ltb-false, lt-ltb, le-ltb}
 use Rattle.loops.specs.Pick.{pick-true, pick-false}
+use Rattle.loops.specs.Front.{tab, tab-same, tab-list, getD-tab}
+use Rattle.loops.specs.Sum.{sum-none, sum-more}
 use Rattle.plc.specs.Past.{past}
-use Rattle.plc.specs.Pad.{Remembers, Holds, tap}
+use Rattle.plc.specs.Pad.{Remembers, Holds, tap, tapsRow, tapsTaken}
 
 -- the memory's place k written
 pub remember-more : (mem pad : List Float) (k : ℕ) → ((i : ℕ) → i < k → getD pad (23 - i) nan ≡ getD mem i nan) → k < 24 → 24 ≤ length pad
@@ -41,3 +43,34 @@ reads-past xs mem pad n i j r w h l m = go (ltb j i) refl
         let f : i ≤ j = ltb-false j i e in
         let p : 23 + i - j ≡ 23 - (j - i) = omega arith in
         ap (λ z. getD pad z nan) p ∙ r (j - i) (omega arith)
+
+-- the memory stays where a sample is written
+pub remembers-keep : (mem pad : List Float) (i : ℕ) (v : Float) → Remembers pad mem → length mem ≤ 24 → Remembers (set pad (24 + i) v) mem
+remembers-keep mem pad i v r m k h = getD-set-other pad (24 + i) (23 - k) v nan (λ p. omega arith) ∙ r k h
+
+-- one more sample: ys has those of xs and v
+pub holds-more : (xs ys pad : List Float) (i : ℕ) (v : Float) → Holds pad xs i → ((k : ℕ) → k < i → getD xs k nan ≡ getD ys k nan) → v ≡ getD ys i nan
+    → 24 + i < length pad → Holds (set pad (24 + i) v) ys (i + 1)
+holds-more xs ys pad i v w s e l k h = go (eqb k i) refl
+  where
+    go : (b : Bool) → eqb k i ≡ b → getD (set pad (24 + i) v) (24 + k) nan ≡ getD ys k nan
+    go true q =
+        let p : k ≡ i = eqb-true k i q in
+        ap (λ z. getD (set pad (24 + i) v) (24 + z) nan) p ∙ getD-set-same pad (24 + i) v nan l ∙ e ∙ ap (λ z. getD ys z nan) (sym p)
+    go false q =
+        let g : k < i = omega (arith, eqb-false k i q) in
+        getD-set-other pad (24 + i) (24 + k) v nan (λ p. eqb-false k i q (omega arith)) ∙ w k g ∙ s k g
+
+-- tap j on each sample of xs, row by row
+abbrev pub tapOn : List Float → List Float → List Float → ℕ → ℕ → Float
+tapOn num pad xs j i = add binary32 (getD xs i nan) (tap num pad i j)
+
+pub tap-more : (num pad xs ys zs : List Float) (n j : ℕ) → ys ≡ tab (tapsRow num pad xs j) n → zs ≡ tab (tapOn num pad ys j) n
+    → zs ≡ tab (tapsRow num pad xs (j + 1)) n
+tap-more num pad xs ys zs n j e f =
+    f ∙ tab-same (tapOn num pad ys j) (tapsRow num pad xs (j + 1)) n
+    (λ i h. sum-more binary32 (tap num pad i) (getD xs i nan) (getD ys i nan) j (ap (λ z. getD z i nan) e ∙ getD-tab (tapsRow num pad xs j) n i nan h))
+
+pub tap-none : (num pad xs : List Float) → xs ≡ tab (tapsRow num pad xs 0) (length xs)
+tap-none num pad xs =
+    sym (tab-list nan xs) ∙ tab-same (λ (i : ℕ). getD xs i nan) (tapsRow num pad xs 0) (length xs) (λ i h. sym (sum-none binary32 (tap num pad i) (getD xs i nan)))

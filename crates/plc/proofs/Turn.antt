@@ -6,7 +6,7 @@ use Prim.Native.Nat.{ℕ, _+_, _-_, _/_, _≤_}
 use native.Mathlib.Omega.{arith}
 use lib.Ieee.{Float, nan, binary32, sub, mul, lt}
 use lib.ListN.{length, getD, set, replicate}
-use Rattle.loops.specs.Fold.{foldTo, fold-suc, fold-none, fold-still}
+use Rattle.loops.specs.Fold.{foldTo, fold-suc, fold-none}
 use Rattle.plc.specs.Const.{zero32, small32}
 use Rattle.plc.specs.Lpc.{Lpc, lpcTo, lpcTurn, lpcWith, reflection, crossed, lpc-stops}
 

@@ -23,6 +23,10 @@ tap num pad i j = mul binary32 (getD num j nan) (getD pad (23 + i - j) nan)
 abbrev pub tapsAdded : List Float → List Float → ℕ → Float → ℕ → Float
 tapsAdded num pad i s n = sumTo binary32 (tap num pad i) s n
 
+-- sample i of xs with n taps added
+abbrev pub tapsRow : List Float → List Float → List Float → ℕ → ℕ → Float
+tapsRow num pad xs n i = tapsAdded num pad i (getD xs i nan) n
+
 -- s with n taps subtracted
 abbrev pub tapsTaken : List Float → List Float → ℕ → Float → ℕ → Float
 tapsTaken den pad i s n = foldTo (λ (s : Float) (j : ℕ). sub binary32 s (tap den pad i j)) s n

@@ -3,11 +3,9 @@ ghost use mathlib.Core.Path.{_≡_};
 ghost use mathlib.Core.Bool.{cond};
 ghost use Prim.Native.Nat.{ℕ, _+_, _-_, _≤_, _<_};
 ghost use lib.ListN.{length};
-ghost use lib.ListN.{getD};
-ghost use lib.Ieee.{nan};
 ghost use Rattle.loops.specs.Front.{tab};
 ghost use Rattle.plc.specs.Fir.{celtFir, celtFirFrom, firTakes};
-ghost use Rattle.plc.specs.Pad.{Remembers, Holds, tapsAdded};
+ghost use Rattle.plc.specs.Pad.{Remembers, Holds, tapsRow};
 
 // The samples of buf behind their memory.
 fn padded(buf: &[f32], mem: &[f32]) -> [f32; 1048]
@@ -26,7 +24,7 @@ fn padded(buf: &[f32], mem: &[f32]) -> [f32; 1048]
 // Adds to each of out's samples its taps in order; row by row, so that neighbouring samples run side by side.
 fn add_taps(out: &mut [f32], num: &[f32], pad: &[f32])
     requires { ⌜ (length (now num) ≤ 24) × (length (now pad) ≡ length (now out) + 24) ⌝ }
-    ensures { λ _. ⌜ now (out .exit) ≡ tab (λ i. tapsAdded (now (num .entry)) (now (pad .entry)) i (getD (now (out .entry)) i nan) (length (now (num .entry)))) (length (now (out .entry))) ⌝ }
+    ensures { λ _. ⌜ now (out .exit) ≡ tab (tapsRow (now (num .entry)) (now (pad .entry)) (now (out .entry)) (length (now (num .entry)))) (length (now (out .entry))) ⌝ }
 {
     let n = out.len();
     let ord = num.len();

@@ -6,6 +6,9 @@ use native.Mathlib.Omega.{arith}
 use native.Mathlib.Numerals.{add-one}
 use lib.ListN.{length, getD, set, take, drop, length-set}
 use borrow.Author.Needs.{needs}
+use lib.Ieee.{Float}
+use Rattle.plc.specs.Autocorr.{lagRow}
+use Rattle.plc.proofs.Lags.{row-size}
 use Rattle.plc.proofs.autocorr.celt_autocorr.Statement.{statement}
 use Rattle.plc.proofs.autocorr.celt_autocorr.Tie as tie
 use Rattle.plc.proofs.autocorr.celt_autocorr.Reads as reads
@@ -28,7 +31,10 @@ slice-aggregate-other-terms c = search needs
 
 -- src/autocorr.rt:58:5
 other-terms-requires : tie.Need-other-terms-requires
-other-terms-requires c κs = search needs
+other-terms-requires c κs = let f = c .before .before .before .first-terms in
+    let x : List Float = c .before .before .before .before .before .before .args .x .now in
+    let e : length (f .last .1 .0) ≡ 5 = row-size x (f .last .1 .0) 5 4 (f .ensures) in
+    (search needs, search needs, f .ensures ∙ ap (λ z. lagRow x z (z - 1)) (sym e))
 
 -- src/autocorr.rt:60:15
 slice-aggregate-by-lag : tie.Need-slice-aggregate-by-lag
@@ -40,7 +46,11 @@ slice-aggregate-by-lag-2 c = search needs
 
 -- src/autocorr.rt:60:5
 by-lag-requires : tie.Need-by-lag-requires
-by-lag-requires c κs = search needs
+by-lag-requires c κs = let g = c .before .before .before .before .before .before .before .before .first-terms in
+    let f = c .before .before .before .before .other-terms in
+    let x : List Float = c .before .before .before .before .before .before .before .before .before .before .before .args .x .now in
+    let e : length (g .last .1 .0) ≡ length (f .last .1 .0) = search needs in
+    (search needs, search needs, f .ensures ∙ ap (λ z. lagRow x z (length x)) e)
 
 -- src/autocorr.rt:53:1
 returns : tie.Need-returns

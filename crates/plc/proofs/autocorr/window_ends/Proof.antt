@@ -86,7 +86,7 @@ mul-xx-6 c = search needs
 
 -- src/autocorr.rt:73:9
 slice-write-xx-2 : tie.Need-slice-write-xx-2 Inv-loop μ-loop
-slice-write-xx-2 c = search needs
+slice-write-xx-2 c = simp length-set (search needs)
 
 -- src/autocorr.rt:71:9
 add-i : tie.Need-add-i Inv-loop μ-loop
@@ -98,7 +98,9 @@ loop-less c = search needs
 
 -- src/autocorr.rt:71:5
 loop-again : tie.Need-loop-again Inv-loop μ-loop
-loop-again c = (search needs, simp length-set (search needs), fold-more (windowTurn _ _) _ _ _ (c .before .before .before .before .before .loop .inv .2))
+loop-again c = let h = c .before .before .before .before .before .loop in
+    let a = c .before .before .before .before .before .before .args in
+    (search needs, simp length-set (search needs), fold-more (windowTurn (a .x .now) (a .window .now)) (a .x .now) (h .xx) (h .i) (h .inv .2))
 
 -- src/autocorr.rt:65:1
 same-length : tie.Need-same-length Inv-loop μ-loop
@@ -106,6 +108,7 @@ same-length c = search needs
 
 -- src/autocorr.rt:65:1
 returns : tie.Need-returns Inv-loop μ-loop
+unfolding windowedEnds
 returns c = let h = c .before .loop in
     let a = c .before .before .args in
     let e : h .i ≡ length (a .window .now) = search needs in

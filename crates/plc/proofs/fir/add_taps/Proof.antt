@@ -6,26 +6,31 @@ use native.Mathlib.Omega.{arith}
 use native.Mathlib.Numerals.{add-one}
 use lib.ListN.{length, getD, set, take, drop, length-set}
 use borrow.Author.Needs.{needs}
+use lib.Ieee.{Float, nan}
+use Rattle.loops.specs.Front.{front, tab, tab-none, tab-more, tab-read, tab-all, length-tab}
+use Rattle.plc.specs.Pad.{tap, tapsRow}
+use lib.Ieee.{binary32, add}
+use Rattle.plc.proofs.Taps.{tapOn, tap-none, tap-more}
 use Rattle.plc.proofs.fir.add_taps.Statement.{statement}
 use Rattle.plc.proofs.fir.add_taps.Tie as tie
 use Rattle.plc.proofs.fir.add_taps.Reads as reads
 use Rattle.plc.proofs.fir.add_taps.Lts as lts
 
 abbrev Inv-loop2 : tie.InvT-loop2
-Inv-loop2 out₀ num pad n ord j c i₀ out i = ?
+Inv-loop2 out₀ num pad n ord j c i₀ out i = (i ≤ n) × (length out ≡ n) × (out ≡ front (tab (tapOn num pad out₀ j) i) out₀ i)
 
 abbrev μ-loop2 : tie.MeasureT-loop2
-μ-loop2 out₀ num pad n ord j c i₀ out i = ?
+μ-loop2 out₀ num pad n ord j c i₀ out i = n - i
 
 abbrev Inv-loop : tie.InvT-loop
-Inv-loop out₀ num pad n ord j₀ out j = ?
+Inv-loop out₀ num pad n ord j₀ out j = (j ≤ ord) × (length out ≡ n) × (out ≡ tab (tapsRow num pad out₀ j) n)
 
 abbrev μ-loop : tie.MeasureT-loop
-μ-loop out₀ num pad n ord j₀ out j = ?
+μ-loop out₀ num pad n ord j₀ out j = ord - j
 
 -- src/fir.rt:33:5
 loop-holds : tie.Need-loop-holds Inv-loop2 μ-loop2 Inv-loop μ-loop
-loop-holds c = search needs
+loop-holds c = (search needs, search needs, tap-none (c .args .num .now) (c .args .pad .now) _)
 
 -- src/fir.rt:34:17
 mul-c : tie.Need-mul-c Inv-loop2 μ-loop2 Inv-loop μ-loop
@@ -37,7 +42,7 @@ shared-slice-read-c c = search needs
 
 -- src/fir.rt:35:9
 loop2-holds : tie.Need-loop2-holds Inv-loop2 μ-loop2 Inv-loop μ-loop
-loop2-holds c = search needs
+loop2-holds c = (search needs, search needs, tab-none _ _)
 
 -- src/fir.rt:36:22
 mul-out : tie.Need-mul-out Inv-loop2 μ-loop2 Inv-loop μ-loop
@@ -81,7 +86,15 @@ loop2-less c = search needs
 
 -- src/fir.rt:35:9
 loop2-again : tie.Need-loop2-again Inv-loop2 μ-loop2 Inv-loop μ-loop
-loop2-again c = search needs
+loop2-again c = let h2 = c .before .before .before .loop2 in
+    let h = c .before .before .before .before .before .before .loop in
+    let a = c .before .before .before .before .before .before .before .args in
+    let f = tapOn (a .num .now) (a .pad .now) (h .out) (h .j) in
+    let r : getD (h2 .out) (h2 .i) nan ≡ getD (h .out) (h2 .i) nan = tab-read f nan (h .out) (h2 .out) (h2 .i) (h2 .inv .2) (search needs) in (
+      search needs,
+      simp length-set (search needs),
+      tab-more f nan (h .out) (h2 .out) (h2 .i) (h2 .inv .2) _ (ap (λ z. add binary32 z (tap (a .num .now) (a .pad .now) (h2 .i) (h .j))) r) (search needs),
+    )
 
 -- src/fir.rt:33:9
 add-j : tie.Need-add-j Inv-loop2 μ-loop2 Inv-loop μ-loop
@@ -93,7 +106,15 @@ loop-less c = search needs
 
 -- src/fir.rt:33:5
 loop-again : tie.Need-loop-again Inv-loop2 μ-loop2 Inv-loop μ-loop
-loop-again c = search needs
+loop-again c = let h2 = c .before .loop2 in
+    let h = c .before .before .before .before .loop in
+    let a = c .before .before .before .before .before .args in
+    let e : length (h .out) ≡ h2 .i = search needs in
+    let g : length (h .out) ≡ length (a .out .now) = search needs in
+    let t : h2 .out ≡ tab (tapOn (a .num .now) (a .pad .now) (h .out) (h .j)) (length (a .out .now)) =
+    tab-all (tapOn (a .num .now) (a .pad .now) (h .out) (h .j)) nan (h .out) (h2 .out) (h2 .i) (h2 .inv .2) e
+    ∙ ap (tab (tapOn (a .num .now) (a .pad .now) (h .out) (h .j))) g in
+    (search needs, search needs, tap-more (a .num .now) (a .pad .now) (a .out .now) (h .out) (h2 .out) (length (a .out .now)) (h .j) (h .inv .2) t)
 
 -- src/fir.rt:27:1
 same-length : tie.Need-same-length Inv-loop2 μ-loop2 Inv-loop μ-loop
@@ -101,7 +122,10 @@ same-length c = search needs
 
 -- src/fir.rt:27:1
 returns : tie.Need-returns Inv-loop2 μ-loop2 Inv-loop μ-loop
-returns c = search needs
+returns c = let h = c .before .loop in
+    let a = c .before .before .args in
+    let e : h .j ≡ length (a .num .now) = search needs in
+    h .inv .2 ∙ ap (λ z. tab (tapsRow (a .num .now) (a .pad .now) (a .out .now) z) (length (a .out .now))) e
 
 pub add-taps-spec : {M : Type 1} → statement M
 add-taps-spec =

@@ -55,7 +55,8 @@ loop-less c = search needs
 -- src/pad.rt:13:5
 loop-again : tie.Need-loop-again Inv-loop μ-loop
 loop-again c = let h = c .before .before .loop in
-    (search needs, simp length-set (search needs), remember-more _ (h .pad) (h .k) (h .inv .2) (search needs) (search needs))
+    let a = c .before .before .before .args in
+    (search needs, simp length-set (search needs), remember-more (a .mem .now) (h .pad) (h .k) (h .inv .2) (search needs) (search needs))
 
 -- src/pad.rt:8:1
 same-length : tie.Need-same-length Inv-loop μ-loop
