@@ -24,12 +24,13 @@ lagFactor i = mul binary32 lagStep (ofInt binary32 (pos i))
 unfoldable pub windowed : Float → ℕ → Float
 windowed a i = sub binary32 a (mul binary32 (mul binary32 a (lagFactor i)) (lagFactor i))
 
-unfoldable pub lagWindowAt : List Float → ℕ → Float
-lagWindowAt ac i = cond (eqb i 0) (mul binary32 (getD ac 0 nan) floorFactor) (windowed (getD ac i nan) i)
+-- the correlation a of lag i
+unfoldable pub lagged : Float → ℕ → Float
+lagged a i = cond (eqb i 0) (mul binary32 a floorFactor) (windowed a i)
 
 unfoldable pub lagWindow : List Float → List Float
-lagWindow ac = tab (lagWindowAt ac) (length ac)
+lagWindow ac = tab (λ (i : ℕ). lagged (getD ac i nan) i) (length ac)
 
 pub length-lagWindow : (ac : List Float) → length (lagWindow ac) ≡ length ac
 unfolding lagWindow
-length-lagWindow ac = length-tab (lagWindowAt ac) (length ac)
+length-lagWindow ac = length-tab _ (length ac)

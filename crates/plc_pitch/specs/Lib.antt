@@ -1,4 +1,7 @@
 -- What the lag search and its downsampling compute, in the Rust's order.
 pub mod Best
+pub mod BestLaws
 pub mod Search
 pub mod LagWindow
+pub mod Downsample
+pub mod Rows

@@ -4,8 +4,10 @@ ghost use Prim.Native.Nat.{ℕ, _+_, _*_, _-_, _≤_, _<_};
 ghost use lib.ListN.{length, getD};
 ghost use lib.Ieee.{nan, binary32, add, mul};
 ghost use Rattle.loops.specs.Front.{tab};
-ghost use Rattle.plc_pitch.specs.Search.{everySecond, crossSum, correlation, near, fineAt, coarseBest, interpolated, refined, pitchSearch};
+ghost use Rattle.plc_pitch.specs.Search.{everySecond, crossSum, correlation, fineAt, coarseBest, interpolated, refined, pitchSearch};
+ghost use Rattle.plc_pitch.specs.Rows.{nearRow, nearOr};
 use crate::best::Best;
+use crate::best::two_best;
 
 fn every_second(x: &[f32], out: &mut [f32])
     requires { ⌜ 2 * length (now out) ≤ length (now x) + 1 ⌝ }
@@ -55,8 +57,99 @@ fn correlate(x: &[f32], y: &[f32], xcorr: &mut [f32])
     }
 }
 
+// The first place within 2 of twice b.
+fn first_near(b: usize) -> usize
+    requires { ⌜ b ≤ 154 ⌝ }
+    ensures { λ r. ⌜ r ≡ 2 * b - 2 ⌝ }
+{
+    if b == 0 { 0 } else { 2 * b - 2 }
+}
+
+// Five correlations at half rate, which hold all those within 2 of twice b.
+fn near_row(y: &[f32], b: usize) -> [f32; 5]
+    requires { ⌜ (length (now y) ≡ 1024) × (b ≤ 154) ⌝ }
+    ensures { λ r. ⌜ r ≡ nearRow (now (y .entry)) b ⌝ }
+{
+    let lo = first_near(b);
+    let mut row = [0.0f32; 5];
+    correlate(&y[360..], &y[lo..], &mut row);
+    row
+}
+
+// What stands in b's row for place i, and v where i is not near.
+fn near_or(row: &[f32; 5], b: usize, i: usize, v: f32) -> f32
+    requires { ⌜ (b ≤ 154) × (i < 310) ⌝ }
+    ensures { λ r. ⌜ r ≡ nearOr (now (row .entry)) b i v ⌝ }
+{
+    if i + 2 < 2 * b {
+        return v;
+    }
+    if 2 * b + 2 < i {
+        return v;
+    }
+    let lo = first_near(b);
+    row[i - lo]
+}
+
+// The finer correlations around twice b0 and twice b1; 0 elsewhere.
+fn fine_row(y: &[f32], b0: usize, b1: usize, xcorr: &mut [f32])
+    requires { ⌜ (length (now y) ≡ 1024) × (b0 ≤ 154) × (b1 ≤ 154) × (length (now xcorr) ≡ 310) ⌝ }
+    ensures { λ r. ⌜ now (xcorr .exit) ≡ tab (fineAt (now (y .entry)) b0 b1) 310 ⌝ }
+{
+    let row0 = near_row(y, b0);
+    let row1 = near_row(y, b1);
+    for i in 0..310 {
+        xcorr[i] = near_or(&row0, b0, i, near_or(&row1, b1, i, 0.0));
+    }
+}
+
+fn coarse_best(y: &[f32]) -> Best
+    requires { ⌜ length (now y) ≡ 1024 ⌝ }
+    ensures { λ r. ⌜ r ≡ coarseBest (now (y .entry)) ⌝ }
+{
+    let mut x4 = [0.0f32; 332];
+    every_second(&y[360..], &mut x4);
+    let mut y4 = [0.0f32; 487];
+    every_second(y, &mut y4);
+    let mut xcorr = [0.0f32; 156];
+    correlate(&x4, &y4, &mut xcorr);
+    two_best(&xcorr[..155], &y4, 332, 155)
+}
+
+// Twice p, moved by one towards the neighbour with the greater correlation.
+fn interpolate(p: usize, a: f32, b: f32, c: f32) -> usize
+    requires { ⌜ (0 < p) × (p < 309) ⌝ }
+    ensures { λ r. ⌜ r ≡ interpolated p a b c ⌝ }
+{
+    if c - a > 0.7 * (b - a) {
+        return 2 * p - 1;
+    }
+    if a - c > 0.7 * (b - c) {
+        return 2 * p + 1;
+    }
+    2 * p
+}
+
+fn refine(xcorr: &[f32; 310], p: usize) -> usize
+    requires { ⌜ p < 310 ⌝ }
+    ensures { λ r. ⌜ r ≡ refined (now (xcorr .entry)) p ⌝ }
+{
+    if p == 0 {
+        return 0;
+    }
+    if p == 309 {
+        return 618;
+    }
+    interpolate(p, xcorr[p - 1], xcorr[p], xcorr[p + 1])
+}
+
+// The offset of the best lag, from 0 to 618: the lag is 720 less it.
 pub fn pitch_search(y: &[f32; 1024]) -> usize
     ensures { λ r. ⌜ r ≡ pitchSearch (now (y .entry)) ⌝ }
 {
-    0
+    let b = coarse_best(y);
+    let mut xcorr = [0.0f32; 310];
+    fine_row(y, b.at0, b.at1, &mut xcorr);
+    let found = two_best(&xcorr, y, 664, 310);
+    refine(&xcorr, found.at0)
 }

@@ -1,3 +1,5 @@
+use Rattle.plc_pitch.specs.Best.{considered}
+use Rattle.loops.specs.Pick.{pick-true, pick-false}
 use mathlib.Core.Path.{_≡_, refl, ap, _∙_, sym}
 use mathlib.Core.List.{List, [], _∷_, _++_}
 use mathlib.Core.Logic.{⊎-elim}
@@ -18,11 +20,15 @@ candidate-requires c κs = search needs
 
 -- src/best.rt:51:1
 returns : tie.Need-returns
-returns c = search needs
+unfolding considered
+returns c =
+    c .candidate .ensures ∙ sym (pick-true _ _ _ (c .before .if1 .taken))
 
 -- src/best.rt:51:1
 returns-2 : tie.Need-returns-2
-returns-2 c = search needs
+unfolding considered
+returns-2 c =
+    sym (pick-false _ _ _ (c .if1 .left))
 
 pub consider-spec : {M : Type 1} → statement M
 consider-spec = tie.close (tie.spec candidate-requires returns returns-2)

@@ -1,3 +1,5 @@
+use Rattle.loops.specs.Sum.{sum-none, sum-more}
+use Rattle.plc_pitch.specs.Best.{energyTo}
 use mathlib.Core.Path.{_≡_, refl, ap, _∙_, sym}
 use mathlib.Core.List.{List, [], _∷_, _++_}
 use mathlib.Core.Logic.{⊎-elim}
@@ -12,14 +14,18 @@ use Rattle.plc_pitch.proofs.best.energy.Reads as reads
 use Rattle.plc_pitch.proofs.best.energy.Lts as lts
 
 abbrev Inv-loop : tie.InvT-loop
-Inv-loop y len syy₀ i₀ syy i = ?
+Inv-loop y len syy₀ i₀ syy i =
+    (i ≤ len) × (syy ≡ energyTo y i)
 
 abbrev μ-loop : tie.MeasureT-loop
-μ-loop y len syy₀ i₀ syy i = ?
+μ-loop y len syy₀ i₀ syy i =
+    len - i
 
 -- src/best.rt:66:5
 loop-holds : tie.Need-loop-holds Inv-loop μ-loop
-loop-holds c = search needs
+unfolding energyTo
+loop-holds c =
+    (search needs, sym (sum-none _ _ _))
 
 -- src/best.rt:67:17
 mul-v : tie.Need-mul-v Inv-loop μ-loop
@@ -39,11 +45,15 @@ loop-less c = search needs
 
 -- src/best.rt:66:5
 loop-again : tie.Need-loop-again Inv-loop μ-loop
-loop-again c = search needs
+unfolding energyTo
+loop-again c =
+    (search needs, sum-more _ _ _ _ _ (c .before .before .loop .inv .1))
 
 -- src/best.rt:61:1
 returns : tie.Need-returns Inv-loop μ-loop
-returns c = search needs
+returns c =
+    let e : c .before .loop .i ≡ c .before .before .args .len = search needs in
+    c .before .loop .inv .1 ∙ ap (energyTo _) e
 
 pub energy-spec : {M : Type 1} → statement M
 energy-spec =

@@ -1,3 +1,7 @@
+use Rattle.loops.specs.Front.{front, tab, tab-none, tab-more, tab-read, tab-all}
+use Rattle.plc_pitch.specs.LagWindow.{lagged, lagWindow}
+use borrow.Author.Tests.{le-leb, lt-leb}
+use lib.Ieee.{nan}
 use mathlib.Core.Path.{_≡_, refl, ap, _∙_, sym}
 use mathlib.Core.List.{List, [], _∷_, _++_}
 use mathlib.Core.Logic.{⊎-elim}
@@ -13,70 +17,70 @@ use Rattle.plc_pitch.proofs.lag_window.lag_window.Lts as lts
 use Rattle.plc_pitch.proofs.lag_window.lag_value.Reads as lag-value-reads
 
 abbrev Inv-loop : tie.InvT-loop
-Inv-loop ac₀ n i₀ ac i = ?
+Inv-loop ac₀ n i₀ ac i =
+    (i ≤ n) × (n ≡ length ac₀) × (length ac ≡ length ac₀) × (ac ≡ front (tab (λ (k : ℕ). lagged (getD ac₀ k nan) k) i) ac₀ i)
 
 abbrev μ-loop : tie.MeasureT-loop
-μ-loop ac₀ n i₀ ac i = ?
-
--- src/lag_window.rt:24:9
-returns : tie.Need-returns Inv-loop μ-loop
-returns c = search needs
+μ-loop ac₀ n i₀ ac i =
+    n - i
 
 -- src/lag_window.rt:27:9
-returns-2 : tie.Need-returns-2 Inv-loop μ-loop
-returns-2 c = search needs
-
--- src/lag_window.rt:29:13
-slice-read-ac : tie.Need-slice-read-ac Inv-loop μ-loop
-slice-read-ac c = search needs
+returns : tie.Need-returns Inv-loop μ-loop
+returns c =
+    (sym (lt-leb _ 65536 (c .if1 .taken)), refl)
 
 -- src/lag_window.rt:29:5
-slice-write-ac : tie.Need-slice-write-ac Inv-loop μ-loop
-slice-write-ac c = search needs
-
--- src/lag_window.rt:30:5
 loop-holds : tie.Need-loop-holds Inv-loop μ-loop
-loop-holds c = search needs
+loop-holds c =
+    (search needs, refl, refl, tab-none _ _)
 
--- src/lag_window.rt:31:27
+-- src/lag_window.rt:30:27
 mul-lag-value : tie.Need-mul-lag-value Inv-loop μ-loop
 mul-lag-value c = search needs
 
--- src/lag_window.rt:31:27
+-- src/lag_window.rt:30:27
 slice-read-lag-value : tie.Need-slice-read-lag-value Inv-loop μ-loop
 slice-read-lag-value c = search needs
 
--- src/lag_window.rt:31:17
+-- src/lag_window.rt:30:17
 lag-value-requires : tie.Need-lag-value-requires Inv-loop μ-loop
 lag-value-requires c κs = search needs
 
--- src/lag_window.rt:31:9
+-- src/lag_window.rt:30:9
 mul-ac : tie.Need-mul-ac Inv-loop μ-loop
 mul-ac c = search needs
 
--- src/lag_window.rt:31:9
-slice-write-ac-2 : tie.Need-slice-write-ac-2 Inv-loop μ-loop
-slice-write-ac-2 c = search needs
-
 -- src/lag_window.rt:30:9
+slice-write-ac : tie.Need-slice-write-ac Inv-loop μ-loop
+slice-write-ac c = search needs
+
+-- src/lag_window.rt:29:9
 add-i : tie.Need-add-i Inv-loop μ-loop
 add-i c = search needs
 
--- src/lag_window.rt:30:5
+-- src/lag_window.rt:29:5
 loop-less : tie.Need-loop-less Inv-loop μ-loop
 loop-less c = search needs
 
--- src/lag_window.rt:30:5
+-- src/lag_window.rt:29:5
 loop-again : tie.Need-loop-again Inv-loop μ-loop
-loop-again c = search needs
+loop-again c =
+    let l = c .before .before .before .loop in
+    let h : l .i < length (c .before .before .before .before .before .before .args .ac .now) = search needs in
+    (search needs, search needs, simp length-set (l .inv .2), tab-more _ nan _ _ _ (l .inv .3) _ (c .lag-value .ensures ∙ ap (λ z. lagged z (l .i)) (tab-read _ nan _ _ _ (l .inv .3) h)) h)
 
--- src/lag_window.rt:19:1
+-- src/lag_window.rt:22:1
 same-length : tie.Need-same-length Inv-loop μ-loop
 same-length c = search needs
 
--- src/lag_window.rt:19:1
-returns-3 : tie.Need-returns-3 Inv-loop μ-loop
-returns-3 c = search needs
+-- src/lag_window.rt:22:1
+returns-2 : tie.Need-returns-2 Inv-loop μ-loop
+unfolding lagWindow
+returns-2 c =
+    let l = c .before .loop in
+    let n : length (c .before .before .before .before .args .ac .now) ≤ 65536 = search needs in
+    let e : length (c .before .before .before .before .args .ac .now) ≡ l .i = search needs in
+    (sym (le-leb _ 65536 n), tab-all _ nan _ _ _ (l .inv .3) e)
 
 pub lag-window-spec : {M : Type 1} → statement M
 lag-window-spec =
@@ -85,17 +89,14 @@ lag-window-spec =
     Inv-loop
     μ-loop
     returns
-    returns-2
-    slice-read-ac
-    slice-write-ac
     loop-holds
     mul-lag-value
     slice-read-lag-value
     lag-value-requires
     mul-ac
-    slice-write-ac-2
+    slice-write-ac
     add-i
     loop-less
     loop-again
     same-length
-    returns-3)
+    returns-2)

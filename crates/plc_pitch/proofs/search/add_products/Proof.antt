@@ -1,3 +1,5 @@
+use Rattle.loops.specs.Front.{front, tab, tab-none, tab-more, tab-all, tab-read}
+use lib.Ieee.{Float, nan, binary32, add, mul}
 use mathlib.Core.Path.{_≡_, refl, ap, _∙_, sym}
 use mathlib.Core.List.{List, [], _∷_, _++_}
 use mathlib.Core.Logic.{⊎-elim}
@@ -11,15 +13,21 @@ use Rattle.plc_pitch.proofs.search.add_products.Tie as tie
 use Rattle.plc_pitch.proofs.search.add_products.Reads as reads
 use Rattle.plc_pitch.proofs.search.add_products.Lts as lts
 
+abbrev term : Float → List Float → List Float → ℕ → Float
+term v y s k = add binary32 (getD s k nan) (mul binary32 v (getD y k nan))
+
 abbrev Inv-loop : tie.InvT-loop
-Inv-loop v y sums₀ n i₀ sums i = ?
+Inv-loop v y sums₀ n i₀ sums i =
+    (i ≤ n) × (n ≡ length sums₀) × (length sums ≡ length sums₀) × (sums ≡ front (tab (term v y sums₀) i) sums₀ i)
 
 abbrev μ-loop : tie.MeasureT-loop
-μ-loop v y sums₀ n i₀ sums i = ?
+μ-loop v y sums₀ n i₀ sums i =
+    n - i
 
 -- src/search.rt:26:5
 loop-holds : tie.Need-loop-holds Inv-loop μ-loop
-loop-holds c = search needs
+loop-holds c =
+    (search needs, search needs, refl, tab-none _ _)
 
 -- src/search.rt:27:19
 mul-sums : tie.Need-mul-sums Inv-loop μ-loop
@@ -55,7 +63,16 @@ loop-less c = search needs
 
 -- src/search.rt:26:5
 loop-again : tie.Need-loop-again Inv-loop μ-loop
-loop-again c = search needs
+loop-again c =
+    let l = c .before .before .before .loop in
+    let a = c .before .before .before .before .args in
+    let h : l .i < length (a .sums .now) = search needs in (
+      search needs,
+      search needs,
+      simp length-set (l .inv .2),
+      tab-more _ nan _ _ _ (l .inv .3) _
+          (ap (λ z. add binary32 z (mul binary32 (a .v) (getD (a .y .now) (l .i) nan))) (tab-read (term (a .v) (a .y .now) (a .sums .now)) nan _ _ _ (l .inv .3) h)) h,
+    )
 
 -- src/search.rt:21:1
 same-length : tie.Need-same-length Inv-loop μ-loop
@@ -63,7 +80,10 @@ same-length c = search needs
 
 -- src/search.rt:21:1
 returns : tie.Need-returns Inv-loop μ-loop
-returns c = search needs
+returns c =
+    let l = c .before .loop in
+    let e : length (c .before .before .args .sums .now) ≡ l .i = search needs in
+    tab-all _ nan _ _ _ (l .inv .3) e
 
 pub add-products-spec : {M : Type 1} → statement M
 add-products-spec =

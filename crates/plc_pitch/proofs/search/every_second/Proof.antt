@@ -1,3 +1,7 @@
+use Rattle.loops.specs.Front.{front, tab, tab-none, tab-more, tab-all}
+use Rattle.plc_pitch.specs.Search.{everySecond}
+use Prim.Native.Nat.{_*_}
+use lib.Ieee.{Float, nan}
 use mathlib.Core.Path.{_≡_, refl, ap, _∙_, sym}
 use mathlib.Core.List.{List, [], _∷_, _++_}
 use mathlib.Core.Logic.{⊎-elim}
@@ -12,14 +16,17 @@ use Rattle.plc_pitch.proofs.search.every_second.Reads as reads
 use Rattle.plc_pitch.proofs.search.every_second.Lts as lts
 
 abbrev Inv-loop : tie.InvT-loop
-Inv-loop x out₀ n j₀ out j = ?
+Inv-loop x out₀ n j₀ out j =
+    (j ≤ n) × (n ≡ length out₀) × (length out ≡ length out₀) × (out ≡ front (tab (λ (k : ℕ). getD x (2 * k) nan) j) out₀ j)
 
 abbrev μ-loop : tie.MeasureT-loop
-μ-loop x out₀ n j₀ out j = ?
+μ-loop x out₀ n j₀ out j =
+    n - j
 
 -- src/search.rt:15:5
 loop-holds : tie.Need-loop-holds Inv-loop μ-loop
-loop-holds c = search needs
+loop-holds c =
+    (search needs, search needs, refl, tab-none _ _)
 
 -- src/search.rt:16:20
 mul-out : tie.Need-mul-out Inv-loop μ-loop
@@ -51,7 +58,9 @@ loop-less c = search needs
 
 -- src/search.rt:15:5
 loop-again : tie.Need-loop-again Inv-loop μ-loop
-loop-again c = search needs
+loop-again c =
+    let l = c .before .before .loop in
+    (search needs, search needs, simp length-set (l .inv .2), tab-more _ nan _ _ _ (l .inv .3) _ refl (search needs))
 
 -- src/search.rt:10:1
 same-length : tie.Need-same-length Inv-loop μ-loop
@@ -59,7 +68,11 @@ same-length c = search needs
 
 -- src/search.rt:10:1
 returns : tie.Need-returns Inv-loop μ-loop
-returns c = search needs
+unfolding everySecond
+returns c =
+    let l = c .before .loop in
+    let e : length (c .before .before .args .out .now) ≡ l .j = search needs in
+    tab-all _ nan _ _ _ (l .inv .3) e
 
 pub every-second-spec : {M : Type 1} → statement M
 every-second-spec =

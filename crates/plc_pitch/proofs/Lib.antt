@@ -1,0 +1,4 @@
+mod Turn
+mod Rows
+mod Near
+mod Steps
