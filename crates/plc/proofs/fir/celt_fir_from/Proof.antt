@@ -90,14 +90,9 @@ same-length c = search needs
 -- src/fir.rt:41:1
 returns-5 : tie.Need-returns-5
 returns-5 c = let a = c .before .before .before .before .before .before .before .before .before .before .before .before .before .before .before .args in
-<<<<<<< HEAD
-    let p = c .before .before .before .before .before .before .before .before .padded in
-    taken _ _ _ _ (fir-takes (length (a .num .now)) (length (a .mem .now)) (length (a .buf .now)) (search needs) (search needs) (search needs)) ?
-=======
     let p = c .before .before .before .before .before .before .padded in
     taken _ _ _ _ (fir-takes (length (a .num .now)) (length (a .mem .now)) (length (a .buf .now)) (search needs) (search needs) (search needs))
     (fir-part (a .num .now) (a .mem .now) (a .buf .now) (p .result) (a .from) (p .ensures .0) (p .ensures .1) (search needs) (search needs) (search needs) _ (c .before .before .add-taps .ensures))
->>>>>>> cac2a142f281022ff42a1a12336859afc91e3248
 
 pub celt-fir-from-spec : {M : Type 1} → statement M
 celt-fir-from-spec =

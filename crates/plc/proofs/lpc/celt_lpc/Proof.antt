@@ -39,11 +39,7 @@ same-length c = search needs
 -- src/lpc.rt:44:1
 returns-3 : tie.Need-returns-3
 returns-3 c = let a = c .before .before .before .before .before .before .before .before .args in
-<<<<<<< HEAD
-    taken _ _ _ _ (eq-eqb (length (a .ac .now)) (length (a .lpc .now) + 1) (search needs)) ?
-=======
     taken _ _ _ _ (eq-eqb (length (a .ac .now)) (length (a .lpc .now) + 1) (search needs)) (c .before .before .solve .ensures)
->>>>>>> cac2a142f281022ff42a1a12336859afc91e3248
 
 pub celt-lpc-spec : {M : Type 1} → statement M
 celt-lpc-spec = tie.close (tie.spec returns sub-if2 returns-2 solve-requires same-length returns-3)
