@@ -1,0 +1,75 @@
+use mathlib.Core.Path.{_≡_, refl, ap, _∙_, sym}
+use mathlib.Core.List.{List, [], _∷_, _++_}
+use mathlib.Core.Logic.{⊎-elim}
+use Prim.Native.Nat.{ℕ, zero, suc, _+_, _≤_, _<_, _-_}
+use native.Mathlib.Omega.{arith}
+use native.Mathlib.Numerals.{add-one}
+use lib.ListN.{length, getD, set, take, drop, length-set}
+use borrow.Author.Needs.{needs}
+use Rattle.pitch_loss.proofs.extrapolate.most_recent.Statement.{statement}
+use Rattle.pitch_loss.proofs.extrapolate.most_recent.Tie as tie
+use Rattle.pitch_loss.proofs.extrapolate.most_recent.Reads as reads
+use Rattle.pitch_loss.proofs.extrapolate.most_recent.Lts as lts
+
+abbrev Inv-loop : tie.InvT-loop
+Inv-loop new mem₀ j₀ mem j = ?
+
+abbrev μ-loop : tie.MeasureT-loop
+μ-loop new mem₀ j₀ mem j = ?
+
+-- src/extrapolate.rt:20:5
+loop-holds : tie.Need-loop-holds Inv-loop μ-loop
+loop-holds c = search needs
+
+-- src/extrapolate.rt:21:22
+sub-mem : tie.Need-sub-mem Inv-loop μ-loop
+sub-mem c = search needs
+
+-- src/extrapolate.rt:21:18
+mul-mem : tie.Need-mul-mem Inv-loop μ-loop
+mul-mem c = search needs
+
+-- src/extrapolate.rt:21:18
+shared-slice-read-mem : tie.Need-shared-slice-read-mem Inv-loop μ-loop
+shared-slice-read-mem c = search needs
+
+-- src/extrapolate.rt:21:9
+mul-mem-2 : tie.Need-mul-mem-2 Inv-loop μ-loop
+mul-mem-2 c = search needs
+
+-- src/extrapolate.rt:21:9
+array-write-mem : tie.Need-array-write-mem Inv-loop μ-loop
+array-write-mem c = search needs
+
+-- src/extrapolate.rt:20:9
+add-j : tie.Need-add-j Inv-loop μ-loop
+add-j c = search needs
+
+-- src/extrapolate.rt:20:5
+loop-less : tie.Need-loop-less Inv-loop μ-loop
+loop-less c = search needs
+
+-- src/extrapolate.rt:20:5
+loop-again : tie.Need-loop-again Inv-loop μ-loop
+loop-again c = search needs
+
+-- src/extrapolate.rt:15:1
+returns : tie.Need-returns Inv-loop μ-loop
+returns c = search needs
+
+pub most-recent-spec : {M : Type 1} → statement M
+most-recent-spec =
+    tie.close
+    (tie.spec
+    Inv-loop
+    μ-loop
+    loop-holds
+    sub-mem
+    mul-mem
+    shared-slice-read-mem
+    mul-mem-2
+    array-write-mem
+    add-j
+    loop-less
+    loop-again
+    returns)

@@ -1,0 +1,76 @@
+// A pitch loss of one channel, in place.
+ghost use mathlib.Core.Path.{_≡_};
+ghost use mathlib.Core.Bool.{cond};
+ghost use mathlib.Core.List.{_++_};
+ghost use Prim.Native.Nat.{_+_, _≤_, _^_, _*_};
+ghost use lib.ListN.{length, take, drop};
+ghost use Rattle.pitch_loss.specs.Loss.{frameSize, tailNow, concealedTail, pitchLoss, accepts};
+use crate::Filter;
+
+fn accepted(size: usize, lpc: usize, lm: u32, lag: u32, f: Filter) -> bool
+    ensures { λ r. ⌜ r ≡ accepts size lpc lm lag f ⌝ }
+{
+    if size != 2168 {
+        return false;
+    }
+    if lpc != 24 {
+        return false;
+    }
+    if 3 < lm {
+        return false;
+    }
+    if lag < 102 {
+        return false;
+    }
+    if 720 < lag {
+        return false;
+    }
+    if f.period < 15 {
+        return false;
+    }
+    if 1022 < f.period {
+        return false;
+    }
+    if 2 < f.tapset {
+        return false;
+    }
+    true
+}
+
+fn frame_size(lm: u32) -> usize
+    requires { ⌜ lm ≤ 3 ⌝ }
+    ensures { λ r. ⌜ (r ≡ frameSize lm) × (120 ≤ r) × (r ≤ 960) ⌝ }
+{
+    120 << lm
+}
+
+// The newest 1,024 and the overlap: a frame of n comes in, and the overlap after it.
+fn conceal(t: &mut [f32], n: usize, lag: usize, first: bool, lpc: &[f32], filter: Filter)
+    requires { ⌜ (length (now t) ≡ 1144) × (length (now lpc) ≡ 24) × (n ≤ 960) × (102 ≤ lag) × (lag ≤ 720) ⌝ }
+    requires { ⌜ (15 ≤ filter .period) × (filter .period ≤ 1022) ⌝ }
+    ensures { λ _. ⌜ now (t .exit) ≡ concealedTail n (now (t .entry)) lag first (now (lpc .entry)) filter ⌝ }
+{
+    let mut c = [0.0f32; 24];
+    crate::overlap::copy_in(&mut c, lpc);
+    let mut e = [0.0f32; 1200];
+    let m = n + 240;
+    crate::extrapolate::extrapolate(&mut e[..m], &t[..1024], lag, first, &c);
+    crate::overlap::roll(&mut t[..1024], &e[..n]);
+    let w = mdct::window::window();
+    crate::overlap::fold_tail(&mut t[1024..], &w, n, &e[..m]);
+    crate::prefilter::prefilter(t, filter);
+}
+
+// Conceals a lost frame of 120 x 2^lm samples; `first` says that the loss before it was none. Only samples from 1,024 on change.
+// Refused, with h as lent: h not of 2,168 samples, lpc not of 24, lm above 3, lag outside 102 to 720, period outside 15 to 1,022, tapset above 2.
+pub fn pitch_loss_channel(h: &mut [f32], lm: u32, lag: u32, first: bool, lpc: &[f32], filter: Filter) -> bool
+    ensures { λ r. ⌜ (r ≡ accepts (length (now (h .entry))) (length (now (lpc .entry))) lm lag filter)
+        × (now (h .exit) ≡ cond (accepts (length (now (h .entry))) (length (now (lpc .entry))) lm lag filter) (pitchLoss lm (now (h .entry)) lag first (now (lpc .entry)) filter) (now (h .entry))) ⌝ }
+{
+    if accepted(h.len(), lpc.len(), lm, lag, filter) {
+        let n = frame_size(lm);
+        conceal(&mut h[1024..], n, lag as usize, first, lpc, filter);
+        return true;
+    }
+    false
+}

@@ -1,0 +1,32 @@
+// How fast the waveform decays from one pitch cycle to the next.
+ghost use mathlib.Core.Path.{_≡_};
+ghost use Prim.Native.Nat.{_≤_};
+ghost use lib.ListN.{length};
+ghost use Rattle.pitch_loss.specs.Decay.{decayPeriod, pitchDecay};
+
+// A period of which two fit the excitation.
+fn decay_period(lag: usize) -> usize
+    ensures { λ r. ⌜ (r ≡ decayPeriod lag) × (r ≤ 512) ⌝ }
+{
+    if lag < 512 { lag } else { 512 }
+}
+
+// The root of the newest period's energy over that of the one before it, at most 1.
+pub(crate) fn pitch_decay(exc: &[f32], lag: usize) -> f32
+    requires { ⌜ length (now exc) ≡ 1024 ⌝ }
+    ensures { λ r. ⌜ r ≡ pitchDecay (now (exc .entry)) lag ⌝ }
+{
+    let period = decay_period(lag);
+    let new = 1024 - period;
+    let old = 1024 - 2 * period;
+    let mut e1 = 1.0f32;
+    let mut e2 = 1.0f32;
+    for i in 0..period {
+        let a = exc[new + i];
+        let b = exc[old + i];
+        e1 = e1 + a * a;
+        e2 = e2 + b * b;
+    }
+    let low = float_bits::extremes::min_f32(e1, e2);
+    float_bits::root::sqrt_f32(low / e2)
+}
