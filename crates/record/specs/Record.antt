@@ -2,7 +2,7 @@
 use mathlib.Core.List.{List, [], _∷_, _++_}
 use Prim.Native.Nat.{ℕ}
 use lib.Ieee.{Float, binary32, ofBits, toBits}
-use Rattle.ref_decode.specs.declared.state.Filter.{Filter}
+use Rattle.pitch_loss.specs.declared.Filter.{Filter}
 use Rattle.ref_decode.specs.declared.state.Settings.{Settings}
 use Rattle.ref_decode.specs.declared.state.State.{State}
 use Rattle.record.specs.Bytes.{wordAt, floatsAt, wordsBytes, floatsBytes}

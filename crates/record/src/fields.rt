@@ -7,7 +7,7 @@ ghost use Rattle.loops.specs.Front.{front};
 ghost use Rattle.loops.specs.Part.{put};
 ghost use Rattle.record.specs.Bytes.{floatsBytes};
 ghost use Rattle.record.specs.Record.{settingsOf, filterOf, stateOf, historyOf, headWords, stateBytes, recordOf};
-use ref_decode::state::Filter;
+use pitch_loss::Filter;
 use ref_decode::state::Settings;
 use ref_decode::state::State;
 

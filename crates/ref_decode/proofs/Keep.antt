@@ -10,14 +10,14 @@ use lib.Dec.{leb, ltb, eqb}
 use borrow.Author.Tests.{leb-true, leb-false, le-leb, lt-leb, eqb-true, eqb-false, eq-eqb, ne-eqb, not-false}
 use Rattle.ref_decode.specs.State.{Core, core, noisy, searches, stereo, frame}
 use Rattle.ref_decode.specs.Refusal.{orElse, within, checkSettings, checkCount, checkLag, checkFilter, checkHistory, checkPcm, refusesState, refusal, Accepted}
-use Rattle.ref_decode.specs.Stub.{Tail}
+use Rattle.pitch_loss.specs.Tail.{Tail}
 use Rattle.ref_decode.specs.History.{Tails, tails, withTails}
-use Rattle.ref_decode.specs.Steps.{lagOf, rolled, covered}
+use Rattle.ref_decode.specs.Steps.{lagOf, covered}
 use Rattle.ref_decode.specs.Loss.{noiseTails, pitched, pitchTails, tailsAfter, blockOne, blockTwo, lagUsed, predictorUsed, historyAfter, concealed}
-use Rattle.ref_decode.proofs.Laws.{lag-low, lag-high, pitch-samples, pitch-over, block-samples}
+use Rattle.ref_decode.proofs.Laws.{lag-low, lag-high, pitch-new, pitch-over, block-samples}
 use Rattle.ref_decode.specs.declared.state.Settings.{Settings}
 use Rattle.ref_decode.specs.declared.state.State.{State}
-use Rattle.ref_decode.proofs.Parts.{TailSized, Sized, tails-sized, with-length, tails-with, passed, and-true, rolled-sized, covered-sized}
+use Rattle.ref_decode.proofs.Parts.{TailSized, Sized, tails-sized, with-length, tails-with, passed, and-true, frame-high, covered-sized}
 
 -- none of 1 to 5 and 7 to 9: what every state of a run has, though 6 may come to apply
 pub record Ok (s : State) (h : List Float) : Type 0 where
@@ -112,9 +112,10 @@ module _ (s : State) (h : List Float) (o : Ok s h) where
 
   pitched-sized : (lag : ℕ) (c : List Float) (t : Tail) → TailSized t → TailSized (pitched s lag c t)
   unfolding pitched
-  pitched-sized lag c t z = rolled-sized (s .settings) (o .settings) t z _
-      (pitch-samples (s .settings) t lag _ c (s .filter))
-      (pitch-over (s .settings) t lag _ c (s .filter))
+  pitched-sized lag c t z = record {
+    new = pitch-new (s .settings) t lag _ c (s .filter) (omega (arith, frame-high (s .settings) (o .settings), z .new)) ∙ z .new;
+    over = pitch-over (s .settings) t lag _ c (s .filter);
+  }
 
   after-sized : (lag : ℕ) → Sized (tailsAfter s lag (tails h))
   unfolding tailsAfter noiseTails pitchTails blockOne blockTwo

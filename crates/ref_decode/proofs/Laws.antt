@@ -9,18 +9,20 @@ use lib.ListN.{length, length-replicate}
 use lib.Seq.{slice}
 use lib.Dec.{eqb}
 use lib.Ieee.{Float}
-use Rattle.ref_decode.specs.Stub.{quiet, Tail, Synth, draw, draws, pitchSearch, pitchDownsample, pitchDownsamplePair, pitchSynth, noiseBlock}
+use Rattle.plc_pitch.specs.Search.{pitchSearch, found-most}
+use Rattle.plc_pitch.specs.Downsample.{pitchDownsample, pitchDownsamplePair}
+use Rattle.pitch_loss.specs.Tail.{Tail}
+use Rattle.pitch_loss.specs.Overlap.{length-rolled}
+use Rattle.pitch_loss.specs.Loss.{tailAfter, length-samples, length-over}
+use Rattle.noise_loss.specs.Block.{length-block, block-seed}
+use Rattle.band_quant.specs.Draw.{draws}
 use Rattle.ref_decode.specs.State.{frame, stereo, factor, firstBin, numberOf, kindOf, samplesOf}
 use Rattle.ref_decode.specs.Refusal.{refusedWith}
 use Rattle.ref_decode.specs.Steps.{lagOf, pitch, block}
-use Rattle.ref_decode.specs.declared.state.Filter.{Filter}
+use Rattle.pitch_loss.specs.declared.Filter.{Filter}
 use Rattle.ref_decode.specs.declared.state.Settings.{Settings}
 use Rattle.ref_decode.specs.declared.state.Verdict.{Verdict}
 use Rattle.ref_decode.specs.declared.state.Verdict.the-variants.{Pitch, Noise, BadLm, BadChannels, BadStart, BadEnd, BadDownsample, CountFull, BadLag, BadFilter, BadHistory, ShortPcm}
-
-pub found-most : (y : List Float) → pitchSearch y ≤ 618
-unfolding pitchSearch
-found-most y = omega arith
 
 pub lag-low : (k : Settings) (h : List Float) → 102 ≤ lagOf k h
 unfolding lagOf
@@ -32,26 +34,22 @@ pub lag-high : (k : Settings) (h : List Float) → lagOf k h ≤ 720
 unfolding lagOf
 lag-high k h = omega arith
 
-pub pitch-samples : (k : Settings) (t : Tail) (lag : ℕ) (fade : Bool) (c : List Float) (f : Filter) → length ((pitch k t lag fade c f) .samples) ≡ frame k
-unfolding pitchSynth
-pitch-samples k t lag fade c f = length-replicate (frame k) quiet
+pub pitch-over : (k : Settings) (t : Tail) (lag : ℕ) (first : Bool) (c : List Float) (f : Filter) → length ((pitch k t lag first c f) .over) ≡ 120
+unfolding tailAfter
+pitch-over k t lag first c f = length-over (frame k) t lag first c f
 
-pub pitch-over : (k : Settings) (t : Tail) (lag : ℕ) (fade : Bool) (c : List Float) (f : Filter) → length ((pitch k t lag fade c f) .over) ≡ 120
-unfolding pitchSynth
-pitch-over k t lag fade c f = length-replicate 120 quiet
+pub pitch-new : (k : Settings) (t : Tail) (lag : ℕ) (first : Bool) (c : List Float) (f : Filter) → frame k ≤ length (t .new)
+    → length ((pitch k t lag first c f) .new) ≡ length (t .new)
+unfolding tailAfter
+pitch-new k t lag first c f h = length-rolled (frame k) _ (t .new) (length-samples (frame k) t lag first c f) h
 
 pub block-samples : (k : Settings) (seed : ℕ) (e : List Float) → length ((block k seed e) .samples) ≡ frame k + 120
-unfolding noiseBlock frame factor
-block-samples k seed e = length-replicate (120 * 2 ^ k .lm + 120) quiet
+unfolding frame
+block-samples k seed e = length-block (factor k) (k .start) (k .end) (k .downsample) seed e
 
-pub block-seed : (k : Settings) (seed : ℕ) (e : List Float) → k .start ≤ 20 → (block k seed e) .seed ≡ draws (factor k * (100 - firstBin k)) seed
-unfolding noiseBlock factor firstBin
-block-seed k seed e l = refl
-
-pub draws-add : (a b s : ℕ) → draws (a + b) s ≡ draws b (draws a s)
-unfolding draws
-draws-add zero b s = ap (λ n. draws n s) (let z : 0 + b ≡ b = omega arith in z)
-draws-add (suc a) b s = ap (λ n. draws n s) (suc-add a b) ∙ draws-add a b (draw s)
+pub block-draws : (k : Settings) (seed : ℕ) (e : List Float) → k .start ≤ 20 → (block k seed e) .seed ≡ draws (factor k * (100 - firstBin k)) seed
+unfolding firstBin
+block-draws k seed e l = block-seed (factor k) (k .start) (k .end) (k .downsample) seed e (omega arith)
 
 -- a refusal's number is not 0
 cond-either : {A : Type 0} (P : A → Type 0) (b : Bool) (x y : A) → P x → P y → P (cond b x y)

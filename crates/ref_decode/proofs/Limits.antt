@@ -9,14 +9,16 @@ use lib.ListN.{length, take, drop}
 use lib.Ieee.{Float}
 use lib.Dec.{leb, ltb, eqb, eqb·suc-zero}
 use borrow.Author.Tests.{eqb-true, eqb-false, ne-eqb}
-use Rattle.ref_decode.specs.Stub.{draws}
+use Rattle.band_quant.specs.Draw.{draws, draws-none, draws-add}
 use Rattle.ref_decode.specs.State.{Core, core, needed, noisy, searches, stereo, frame, factor, firstBin, numberOf, kindOf, samplesOf}
 use Rattle.ref_decode.specs.Refusal.{refusal, Accepted}
-use Rattle.ref_decode.specs.Stub.{Tail, Sound}
+use Rattle.pitch_loss.specs.Tail.{Tail}
+use Rattle.noise_loss.specs.Laid.{laid}
+use Rattle.deemphasis.specs.Deemphasis.{Sound}
 use Rattle.ref_decode.specs.History.{Tails, tails, both, ahead}
-use Rattle.ref_decode.specs.Steps.{block, voice, laid, covered}
+use Rattle.ref_decode.specs.Steps.{block, voice, covered}
 use Rattle.ref_decode.specs.Loss.{Outcome, noiseSeed, noiseTails, pitchTails, tailsAfter, blockOne, blockTwo, seedAfter, coarseAfter, lagUsed, predictorUsed, historyAfter, sound, concealed, answered, loss}
-use Rattle.ref_decode.proofs.Laws.{block-seed, draws-add, refused-number, accepted-number}
+use Rattle.ref_decode.proofs.Laws.{block-draws, refused-number, accepted-number}
 use Rattle.ref_decode.specs.declared.state.Settings.{Settings}
 use Rattle.ref_decode.specs.declared.state.State.{State}
 use Rattle.ref_decode.specs.declared.state.Verdict.{Verdict}
@@ -129,7 +131,7 @@ coreAfter c = record { settings = c .settings; count = c .count + 1; seed = seed
 
 -- the samples of a noise loss, from the core and the old overlaps
 heard : Core → List Float → List Float → List (List Float)
-heard c u v = both (stereo (c .settings)) (laid (c .settings) ((blockOne c) .samples) u) (laid (c .settings) ((blockTwo c) .samples) v)
+heard c u v = both (stereo (c .settings)) (laid (frame (c .settings)) ((blockOne c) .samples) u) (laid (frame (c .settings)) ((blockTwo c) .samples) v)
 
 one-most : (b : Bool) → cond b 1 0 ≤ 1
 one-most true = omega arith
@@ -170,7 +172,7 @@ heard-same : (c d : Core) (u v w y : List Float) → c ≡ d → u ≡ w → (st
 unfolding heard
 heard-same c d u v w y e p q =
     subst (λ z. heard c u v ≡ heard z w y) e
-    (both-same (stereo (c .settings)) _ _ _ _ (ap (laid (c .settings) ((blockOne c) .samples)) p) (λ b. ap (laid (c .settings) ((blockTwo c) .samples)) (q b)))
+    (both-same (stereo (c .settings)) _ _ _ _ (ap (laid (frame (c .settings)) ((blockOne c) .samples)) p) (λ b. ap (laid (frame (c .settings)) ((blockTwo c) .samples)) (q b)))
 
 module _ (n : ℕ) (s r : State) (h g : List Float) (o : Ok s h) (q : Ok r g) (e : core s ≡ core r) (l : 1 ≤ n → Later s (tails h) (tails g)) where
   ahead-same : Later s (tails h) (tails g) → ahead (s .settings) (historyAfter s h) ≡ ahead (s .settings) (historyAfter r g)
@@ -249,7 +251,7 @@ module _ (s : State) (h : List Float) (o : Ok s h) where
       d = factor (s .settings) * (100 - firstBin (s .settings))
 
       one : (seed : ℕ) (e : List Float) → (block (s .settings) seed e) .seed ≡ draws d seed
-      one seed e = block-seed (s .settings) seed e (start-small (s .settings) (o .settings))
+      one seed e = block-draws (s .settings) seed e (start-small (s .settings) (o .settings))
 
       go : (b : Bool) → eqb (s .settings .channels) 2 ≡ b
           → cond b ((blockTwo (core s)) .seed) ((blockOne (core s)) .seed) ≡ draws (s .settings .channels * d) (s .seed)

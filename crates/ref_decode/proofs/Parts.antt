@@ -12,9 +12,10 @@ use lib.Dec.{leb, ltb, eqb, lit<}
 use borrow.Author.Tests.{ltb-false, leb-true, not-false}
 use Rattle.ref_decode.specs.State.{factor, frame, stereo}
 use Rattle.ref_decode.specs.Refusal.{checkSettings, checkDownsample, within}
-use Rattle.ref_decode.specs.Stub.{Tail, Synth}
+use Rattle.pitch_loss.specs.Tail.{Tail}
+use Rattle.noise_loss.specs.Laid.{laid, length-laid}
 use Rattle.ref_decode.specs.History.{Tails, tails, withTails, both, ahead}
-use Rattle.ref_decode.specs.Steps.{rolled, laid, covered}
+use Rattle.ref_decode.specs.Steps.{covered}
 use Rattle.ref_decode.specs.declared.state.Settings.{Settings}
 
 module _ {A : Type 0} where
@@ -24,13 +25,6 @@ module _ {A : Type 0} where
 
   slice-last : (p q : List A) (a b : ℕ) → length p ≡ a → length p + length q ≡ b → slice a b (p ++ q) ≡ q
   slice-last p q a b e f = ap (drop a) (take-all b (p ++ q) (omega (arith, length-append p q))) ∙ drop-at p q a e
-
-  length-zip : (f : A → A → A) (p q : List A) → length p ≡ length q → length (zipWith f p q) ≡ length q
-  unfolding zipWith
-  length-zip f [] [] e = refl
-  length-zip f [] (b ∷ q) e = e
-  length-zip f (a ∷ p) [] e = refl
-  length-zip f (a ∷ p) (b ∷ q) e = ap suc (length-zip f p q (omega arith))
 
 -- the sizes that a history's parts have
 pub record TailSized (t : Tail) : Type 0 where
@@ -159,35 +153,20 @@ module _ (k : Settings) (good : checkSettings k ≡ 0) where
   frame-high = omega (arith, pow-le-pow-right {n = 2} (lit< tt) {i = k .lm} {j = 3} lm-small)
 
   module _ (t : Tail) (z : TailSized t) where
-    pub rolled-sized : (y : Synth) → length (y .samples) ≡ frame k → length (y .over) ≡ 120 → TailSized (rolled k y t)
-    unfolding rolled
-    rolled-sized y e f = record {
-      new = omega (arith, length-append (drop (frame k) (t .new)) (y .samples), length-drop (frame k) (t .new), frame-high, z .new);
-      over = f;
-    }
-
-    laid-length : (b : List Float) → length b ≡ frame k + 120 → length (laid k b (t .over)) ≡ frame k
-    unfolding laid
-    laid-length b e =
-        let p : length (take 120 b) ≡ 120 = length-take-le 120 b (omega arith) in
-        let q : length (zipWith (add binary32) (take 120 b) (t .over)) ≡ 120 = length-zip (add binary32) (take 120 b) (t .over) (p ∙ sym (z .over)) ∙ z .over in
-        let r : length (slice 120 (frame k) b) ≡ frame k - 120 = length-slice 120 (frame k) b (omega arith) in
-        omega (arith, length-append (zipWith (add binary32) (take 120 b) (t .over)) (slice 120 (frame k) b), frame-low)
-
     kept : length (take (1024 - frame k) (t .new)) ≡ 1024 - frame k
     kept = length-take-le (1024 - frame k) (t .new) (omega (arith, z .new))
 
     pub covered-sized : (b : List Float) → length b ≡ frame k + 120 → TailSized (covered k b t)
     unfolding covered
     covered-sized b e = record {
-      new = omega (arith, length-append (take (1024 - frame k) (t .new)) (laid k b (t .over)), kept, laid-length b e, frame-high);
+      new = omega (arith, length-append (take (1024 - frame k) (t .new)) (laid (frame k) b (t .over)), kept, length-laid (frame k) b (t .over) frame-low (omega arith), frame-high);
       over = omega (arith, length-drop (frame k) b);
     }
 
     -- what a noise block leaves as the newest N
-    pub covered-newest : (b : List Float) → drop (1024 - frame k) ((covered k b t) .new) ≡ laid k b (t .over)
+    pub covered-newest : (b : List Float) → drop (1024 - frame k) ((covered k b t) .new) ≡ laid (frame k) b (t .over)
     unfolding covered
-    covered-newest b = drop-at (take (1024 - frame k) (t .new)) (laid k b (t .over)) (1024 - frame k) kept
+    covered-newest b = drop-at (take (1024 - frame k) (t .new)) (laid (frame k) b (t .over)) (1024 - frame k) kept
 
   -- the samples ahead of de-emphasis stand in the tails
   pub ahead-tails : (h : List Float) → ahead k h ≡ both (stereo k) (drop (1024 - frame k) ((tails h) .first .new)) (drop (1024 - frame k) ((tails h) .second .new))

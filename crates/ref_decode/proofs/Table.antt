@@ -9,7 +9,7 @@ use lib.Dec.{lit<}
 use borrow.Author.Tests.{leb-true, leb-false, lt-ltb, le-ltb, le-leb, lt-leb, eq-eqb, ne-eqb}
 use Rattle.ref_decode.specs.Refusal.{orElse, within, checkSettings, checkDownsample, checkLag, checkFilter}
 use Rattle.ref_decode.proofs.Parts.{passed, lm-small, channels-high, downsample-passed}
-use Rattle.ref_decode.specs.declared.state.Filter.{Filter}
+use Rattle.pitch_loss.specs.declared.Filter.{Filter}
 use Rattle.ref_decode.specs.declared.state.Settings.{Settings}
 
 pub in-range : (lo hi x : ℕ) → lo ≤ x → x ≤ hi → within lo hi x ≡ true

@@ -6,7 +6,7 @@ use lib.ListN.{take}
 use lib.Seq.{slice}
 use lib.Ieee.{Float}
 use Rattle.ref_decode.specs.State.{frame, stereo}
-use Rattle.ref_decode.specs.Stub.{Tail}
+use Rattle.pitch_loss.specs.Tail.{Tail}
 use Rattle.ref_decode.specs.declared.state.Settings.{Settings}
 
 -- all of a history but each channel's oldest 1,024

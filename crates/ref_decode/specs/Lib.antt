@@ -1,5 +1,4 @@
 -- One loss and runs of losses: what `decode_lost` computes, and what it can depend on.
-pub mod Stub
 pub mod State
 pub mod Refusal
 pub mod History

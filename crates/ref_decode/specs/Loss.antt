@@ -3,13 +3,17 @@ use mathlib.Core.Bool.{cond}
 use mathlib.Core.List.{List, [], _++_}
 use Prim.Native.Nat.{ℕ, zero, suc, _+_}
 use lib.ListN.{length, take, drop}
-use lib.Dec.{leb}
+use lib.Dec.{eqb}
 use lib.Ieee.{Float}
-use Rattle.ref_decode.specs.Stub.{Tail, Block, Sound, pitchFit}
+use Rattle.pitch_loss.specs.Tail.{Tail}
+use Rattle.pitch_loss.specs.Fit.{pitchFit}
+use Rattle.noise_loss.specs.Energies.{readEnergies}
+use Rattle.noise_loss.specs.Block.{Block}
+use Rattle.deemphasis.specs.Deemphasis.{Sound}
 use Rattle.ref_decode.specs.State.{Core, core, needed, stereo, noisy, searches}
 use Rattle.ref_decode.specs.Refusal.{refusal, refusedWith}
 use Rattle.ref_decode.specs.History.{Tails, tails, withTails, ahead}
-use Rattle.ref_decode.specs.Steps.{lagOf, pitch, lower, block, voice, rolled, covered}
+use Rattle.ref_decode.specs.Steps.{lagOf, pitch, lower, block, voice, covered}
 use Rattle.ref_decode.specs.declared.state.State.{State}
 use Rattle.ref_decode.specs.declared.state.Verdict.{Verdict}
 use Rattle.ref_decode.specs.declared.state.Verdict.the-variants.{Pitch, Noise}
@@ -18,11 +22,11 @@ use Rattle.ref_decode.specs.declared.state.Verdict.the-variants.{Pitch, 
 
 -- the coarse energies after it
 unfoldable pub lowered : Core → List Float
-lowered c = cond (leb 5 (c .count)) (c .coarse) (lower (c .settings) (c .count) (c .coarse))
+lowered c = lower (c .settings) (c .count) (c .coarse)
 
 -- the energies that it reads
 unfoldable pub energies : Core → List Float
-energies c = cond (leb 5 (c .count)) (c .background) (lowered c)
+energies c = readEnergies (c .count) (lowered c) (c .background)
 
 unfoldable pub blockOne : Core → Block
 blockOne c = block (c .settings) (c .seed) (take 25 (energies c))
@@ -51,7 +55,7 @@ unfoldable pub predictorUsed : State → Tails → List Float
 predictorUsed s t = cond (searches s) (fitted s t) (s .predictor)
 
 unfoldable pub pitched : State → ℕ → List Float → Tail → Tail
-pitched s lag c t = rolled (s .settings) (pitch (s .settings) t lag (leb 1 (s .«loss_count»)) c (s .filter)) t
+pitched s lag c t = pitch (s .settings) t lag (eqb (s .«loss_count») 0) c (s .filter)
 
 unfoldable pub pitchTails : State → ℕ → Tails → Tails
 pitchTails s lag t = record {

@@ -7,7 +7,7 @@ use lib.ListN.{length}
 use lib.Dec.{leb, ltb, eqb}
 use lib.Ieee.{Float}
 use Rattle.ref_decode.specs.State.{needed}
-use Rattle.ref_decode.specs.declared.state.Filter.{Filter}
+use Rattle.pitch_loss.specs.declared.Filter.{Filter}
 use Rattle.ref_decode.specs.declared.state.Settings.{Settings}
 use Rattle.ref_decode.specs.declared.state.State.{State}
 use Rattle.ref_decode.specs.declared.state.Verdict.{Verdict}

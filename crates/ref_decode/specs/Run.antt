@@ -5,7 +5,7 @@ use mathlib.Core.List.{List, [], _∷_}
 use Prim.Native.Nat.{ℕ, _+_, _*_, _-_, _≤_}
 use lib.Dec.{eqb}
 use lib.Ieee.{Float}
-use Rattle.ref_decode.specs.Stub.{draws}
+use Rattle.band_quant.specs.Draw.{draws}
 use Rattle.ref_decode.specs.State.{core, factor, firstBin, noisy, numberOf, kindOf, samplesOf}
 use Rattle.ref_decode.specs.Refusal.{Accepted}
 use Rattle.ref_decode.specs.History.{tails, ahead}

@@ -4,7 +4,7 @@ use mathlib.Core.List.{List}
 use Prim.Native.Nat.{ℕ, _*_, _-_, _/_, _^_}
 use lib.Dec.{leb, eqb}
 use lib.Ieee.{Float}
-use Rattle.ref_decode.specs.Stub.{edge}
+use Rattle.custom_mode.specs.Mode.{edge}
 use Rattle.ref_decode.specs.declared.state.Settings.{Settings}
 use Rattle.ref_decode.specs.declared.state.State.{State}
 use Rattle.ref_decode.specs.declared.state.Verdict.{Verdict}

@@ -3,7 +3,7 @@ ghost use mathlib.Core.Path.{_≡_};
 ghost use Prim.Native.Nat.{_*_, _^_, _≤_};
 ghost use Rattle.ref_decode.specs.Refusal.{checkSettings, checkDownsample, checkCount, checkLag, checkFilter, checkHistory, checkPcm, refusal, refusedWith};
 ghost use Rattle.ref_decode.specs.State.{needed};
-use crate::state::Filter;
+use pitch_loss::Filter;
 use crate::state::Settings;
 use crate::state::State;
 use crate::state::Verdict;

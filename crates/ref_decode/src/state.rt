@@ -2,11 +2,7 @@
 ghost use mathlib.Core.Path.{_≡_};
 ghost use Rattle.ref_decode.specs.State.{numberOf, kindOf, samplesOf};
 
-pub struct Filter {
-    pub gain: f32,
-    pub period: u32,
-    pub tapset: u32,
-}
+use pitch_loss::Filter;
 
 // The settings of a stream; the frame is 120 * 2 ^ lm samples long.
 pub struct Settings {
