@@ -2,6 +2,7 @@
 pub mod Best
 pub mod BestLaws
 pub mod Search
+pub mod SearchLaws
 pub mod LagWindow
 pub mod Downsample
 pub mod Rows
