@@ -9,7 +9,8 @@ use lib.ListN.{length, length-replicate}
 use lib.Seq.{slice}
 use lib.Dec.{eqb}
 use lib.Ieee.{Float}
-use Rattle.plc_pitch.specs.Search.{pitchSearch, found-most}
+use Rattle.plc_pitch.specs.Search.{pitchSearch}
+use Rattle.plc_pitch.specs.SearchLaws.{offset-le}
 use Rattle.plc_pitch.specs.Downsample.{pitchDownsample, pitchDownsamplePair}
 use Rattle.pitch_loss.specs.Tail.{Tail}
 use Rattle.pitch_loss.specs.Overlap.{length-rolled}
@@ -28,7 +29,7 @@ pub lag-low : (k : Settings) (h : List Float) → 102 ≤ lagOf k h
 unfolding lagOf
 lag-low k h =
     omega
-    (arith, found-most (cond (stereo k) (pitchDownsamplePair (slice 0 2048 h) (slice 2168 4216 h)) (pitchDownsample (slice 0 2048 h))))
+    (arith, offset-le (cond (stereo k) (pitchDownsamplePair (slice 0 2048 h) (slice 2168 4216 h)) (pitchDownsample (slice 0 2048 h))))
 
 pub lag-high : (k : Settings) (h : List Float) → lagOf k h ≤ 720
 unfolding lagOf
