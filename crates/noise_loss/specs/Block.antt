@@ -1,13 +1,15 @@
 -- A noise block: N + 120 samples, a function of settings, seed and one channel's 25 energies alone.
 use mathlib.Core.Path.{_≡_}
 use mathlib.Core.List.{List}
-use Prim.Native.Nat.{ℕ, _+_, _*_, _-_, _/_}
+use Prim.Native.Nat.{ℕ, _+_, _*_, _-_, _/_, _≤_}
 use lib.ListN.{length, getD, replicate}
 use lib.Ieee.{Float, nan, binary32, ofBits, mul}
 use Rattle.loops.specs.Front.{tab, length-tab}
+use Rattle.band_quant.specs.Draw.{draws}
+use Rattle.custom_mode.specs.Mode.{edge}
 use Rattle.mdct.specs.Imdct.{imdct}
 use Rattle.mdct.specs.Window.{window, lowOverlapWindow}
-use Rattle.noise_loss.specs.Shape.{noiseShape}
+use Rattle.noise_loss.specs.Shape.{noiseShape, noise-seed}
 use Rattle.noise_loss.specs.Spectrum.{zero32, spectrum}
 
 -- sample j of the block from the outputs u of the transform, 2 n of them: twice the output, times the window
@@ -31,3 +33,9 @@ pub length-block : (m start end downsample seed : ℕ) (energies : List Float)
     → length (noiseBlock m start end downsample seed energies .samples) ≡ 120 * m + 120
 unfolding noiseBlock
 length-block m start end downsample seed energies = length-tab _ (120 * m + 120)
+
+-- a block takes m * (100 - edge start) draws
+pub block-seed : (m start end downsample seed : ℕ) (energies : List Float) → start ≤ 21
+    → noiseBlock m start end downsample seed energies .seed ≡ draws (m * (100 - edge start)) seed
+unfolding noiseBlock
+block-seed m start end downsample seed energies h = noise-seed m start seed (replicate (120 * m) zero32) h

@@ -19,3 +19,28 @@ laid n block over = overlapped block over ++ slice 120 n block
 -- a channel's 2,048 samples and 120 of overlap, with the block in place of the newest n and of the overlap
 unfoldable pub covered : ℕ → List Float → List Float → List Float
 covered n block h = take (2048 - n) h ++ (laid n block (drop 2048 h) ++ drop n block)
+
+pub length-laid : (n : ℕ) (block over : List Float) → 120 ≤ n → n ≤ length block → length (laid n block over) ≡ n
+unfolding laid overlapped
+length-laid n block over h l =
+    let f : ℕ → Float = λ (j : ℕ). add binary32 (getD block j nan) (getD over j nan) in
+    omega (arith, length-append (tab f 120) (slice 120 n block), length-tab f 120, length-slice 120 n block l)
+
+pub length-covered : (n : ℕ) (block h : List Float) → 120 ≤ n → n ≤ 2048 → length block ≡ n + 120 → length h ≡ 2168 → length (covered n block h) ≡ 2168
+unfolding covered
+length-covered n block h a b l k =
+    omega (
+      arith,
+      length-append (take (2048 - n) h) (laid n block (drop 2048 h) ++ drop n block),
+      length-append (laid n block (drop 2048 h)) (drop n block),
+      length-take-le (2048 - n) h (omega arith),
+      length-laid n block (drop 2048 h) a (omega arith),
+      length-drop n block,
+    )
+
+-- the oldest 1,024 samples, and more, stay as they are
+pub covered-keeps : (n k : ℕ) (block h : List Float) → n + k ≤ 2048 → length h ≡ 2168 → take k (covered n block h) ≡ take k h
+unfolding covered
+covered-keeps n k block h a l =
+    take-append-le k (take (2048 - n) h) (laid n block (drop 2048 h) ++ drop n block) (omega (arith, length-take-le (2048 - n) h (omega arith)))
+    ∙ take-take k (2048 - n) h (omega arith)

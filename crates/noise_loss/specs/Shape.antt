@@ -12,7 +12,7 @@ use Rattle.loops.specs.Part.{put, length-put}
 use Rattle.band_quant.specs.Draw.{draws, draws-none, draws-add}
 use Rattle.band_quant.specs.Noise.{noiseBand, length-noiseBand}
 use Rattle.band_quant.specs.Renormalise.{renormaliseVector, length-renormaliseVector}
-use Rattle.custom_mode.specs.Mode.{edge}
+use Rattle.custom_mode.specs.Mode.{edges, edge}
 use Rattle.custom_mode.specs.Bands.{edges-rise}
 
 -- the first bin of band i and the number of its bins, at block factor m
@@ -44,3 +44,62 @@ noiseTurn m s i = record {
 -- over bins that are all zero: noise in the bands from start to 20
 unfoldable pub noiseShape : ℕ → ℕ → ℕ → List Float → Shape
 noiseShape m start seed bins = foldRange (noiseTurn m) (record { bins = bins; seed = seed }) start 21
+
+-- the bands from one on do not fall
+edge-up : (i n : ℕ) → i + n ≤ 21 → edge i ≤ edge (i + n)
+edge-up i zero h = let e : i + 0 ≡ i = add-zero i in rw e (omega arith)
+edge-up i (suc n) h =
+    let e : i + suc n ≡ i + n + 1 = omega arith in
+    let r = edges-rise (i + n) (omega arith) in
+    rw e (omega (arith, edge-up i n (omega arith)))
+
+-- a band lies within bins that have 100 at each block
+pub band-in : (m i : ℕ) → i < 21 → (lo m i ≤ lo m (i + 1)) × (lo m (i + 1) ≤ m * 100)
+band-in m i h =
+    let r = edges-rise i h in
+    (mul-le-mul-left m (r .0), mul-le-mul-left m (r .1))
+
+pub lo-in : (m i : ℕ) → i ≤ 21 → lo m i ≤ m * 100
+unfolding edge edges
+lo-in m i h = let e : i + (21 - i) ≡ 21 = omega arith in mul-le-mul-left m (rw e at (edge-up i (21 - i) (omega arith)))
+
+module _ (m start : ℕ) where
+  turn : Shape → ℕ → Shape
+  turn s k = noiseTurn m s (start + k)
+
+  seed-after : (a : Shape) (n : ℕ) → start + n ≤ 21 → foldTo turn a n .seed ≡ draws (lo m (start + n) - lo m start) (a .seed)
+  unfolding foldTo turn noiseTurn
+  seed-after a zero h =
+      let e : lo m (start + 0) - lo m start ≡ 0 = ap (λ z. lo m z - lo m start) (add-zero start) ∙ sub-self (lo m start) in
+      sym (draws-none (a .seed)) ∙ ap (λ z. draws z (a .seed)) (sym e)
+  seed-after a (suc n) h =
+      let w = width m (start + n) in
+      let d = lo m (start + n) - lo m start in
+      let u : lo m start ≤ lo m (start + n) = mul-le-mul-left m (edge-up start n (omega arith)) in
+      let v = band-in m (start + n) (omega arith) in
+      let k : start + suc n ≡ start + n + 1 = omega arith in
+      let e : d + w ≡ lo m (start + suc n) - lo m start = (let x : d + w ≡ lo m (start + n + 1) - lo m start = omega arith in x) ∙ ap (λ z. lo m z - lo m start) (sym k) in
+      ap (draws w) (seed-after a n (omega arith)) ∙ sym (draws-add d w (a .seed)) ∙ ap (λ z. draws z (a .seed)) e
+
+  size-after : (a : Shape) (n : ℕ) → start + n ≤ 21 → m * 100 ≤ length (a .bins) → length (foldTo turn a n .bins) ≡ length (a .bins)
+  unfolding foldTo turn noiseTurn
+  size-after a zero h l = refl
+  size-after a (suc n) h l =
+      let b : length (foldTo turn a n .bins) ≡ length (a .bins) = size-after a n (omega arith) l in
+      let v = band-in m (start + n) (omega arith) in
+      let s = foldTo turn a n .seed in
+      let w = width m (start + n) in
+      length-put (lo m (start + n)) w (bandNoise w s) (foldTo turn a n .bins) (length-bandNoise w s) (omega arith) ∙ b
+
+  -- a noise block moves the seed on by m * (100 - edge start) draws
+  pub noise-seed : (seed : ℕ) (bins : List Float) → start ≤ 21 → noiseShape m start seed bins .seed ≡ draws (m * (100 - edge start)) seed
+  unfolding noiseShape foldRange turn edge edges
+  noise-seed seed bins h =
+      let e : start + (21 - start) ≡ 21 = omega arith in
+      seed-after (record { bins = bins; seed = seed }) (21 - start) (omega arith)
+      ∙ ap (λ z. draws (lo m z - lo m start) seed) e
+      ∙ ap (λ z. draws z seed) (sym (mul-sub m 100 (edge start)))
+
+  pub length-noiseShape : (seed : ℕ) (bins : List Float) → start ≤ 21 → m * 100 ≤ length bins → length (noiseShape m start seed bins .bins) ≡ length bins
+  unfolding noiseShape foldRange turn
+  length-noiseShape seed bins h l = size-after (record { bins = bins; seed = seed }) (21 - start) (omega arith) l

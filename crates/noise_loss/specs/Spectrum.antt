@@ -1,18 +1,20 @@
 -- The spectrum of a noise block: each band below end times its gain, and zeros from the bound on.
-use mathlib.Core.Path.{_≡_, refl, ap, _∙_}
+use mathlib.Core.Path.{_≡_, refl, _∙_}
 use mathlib.Core.List.{List, _++_, map}
-use mathlib.Core.Bool.{Bool, cond, not, _&&_}
-use Prim.Native.Nat.{ℕ, _+_, _*_, _-_, _/_}
-use lib.ListN.{length, getD, take, drop, replicate}
-use lib.Seq.{slice}
+use mathlib.Core.Bool.{Bool, true, false, cond, not, _&&_}
+use Prim.Native.Nat.{ℕ, zero, suc, _+_, _*_, _-_, _/_, _≤_, _<_}
+use native.Mathlib.Omega.{arith}
+use lib.ListN.{length, getD, take, drop, replicate, length-append, length-replicate, length-map}
+use lib.Seq.{slice, length-slice, length-take-le}
+use borrow.Author.Tests.{ltb-true}
 use lib.Dec.{eqb, ltb}
 use lib.Ieee.{Float, nan, binary32, ofBits, add, mul}
-use Rattle.loops.specs.Fold.{foldRange}
-use Rattle.loops.specs.Part.{put}
+use Rattle.loops.specs.Fold.{foldTo, foldRange}
+use Rattle.loops.specs.Part.{put, length-put}
 use Rattle.float_bits.specs.Extremes.{minOf}
 use Rattle.custom_mode.specs.Mode.{edge, mean}
 use Rattle.custom_mode.specs.Gain.{bandGain}
-use Rattle.noise_loss.specs.Shape.{lo, width, noiseShape}
+use Rattle.noise_loss.specs.Shape.{lo, width, noiseShape, band-in, lo-in, length-noiseShape}
 
 abbrev pub zero32 : Float
 zero32 = ofBits binary32 0
@@ -43,3 +45,50 @@ unfoldable pub spectrum : ℕ → ℕ → ℕ → ℕ → ℕ → List Float →
 spectrum m start end downsample seed energies =
     let bins = noiseShape m start seed (replicate (120 * m) zero32) .bins in
     cleared (bound m end downsample) (foldRange (gainTurn m energies) bins start end)
+
+pub length-gainTurn : (m : ℕ) (energies bins : List Float) (i : ℕ) → i < 21 → m * 100 ≤ length bins → length (gainTurn m energies bins i) ≡ length bins
+unfolding gainTurn
+length-gainTurn m energies bins i h l =
+    let v = band-in m i h in
+    length-put (lo m i) (width m i) (map (times (gainOf energies i)) (slice (lo m i) (lo m (i + 1)) bins)) bins
+    (length-map (slice (lo m i) (lo m (i + 1)) bins) (times (gainOf energies i)) ∙ length-slice (lo m i) (lo m (i + 1)) bins (omega arith)) (omega arith)
+
+gains-size : (m start : ℕ) (energies bins : List Float) (n : ℕ) → start + n ≤ 21 → m * 100 ≤ length bins
+    → length (foldTo (λ (b : List Float) (k : ℕ). gainTurn m energies b (start + k)) bins n) ≡ length bins
+unfolding foldTo
+gains-size m start energies bins zero h l = refl
+gains-size m start energies bins (suc n) h l =
+    let e : length (foldTo (λ (b : List Float) (k : ℕ). gainTurn m energies b (start + k)) bins n) ≡ length bins = gains-size m start energies bins n (omega arith) l in
+    length-gainTurn m energies (foldTo (λ (b : List Float) (k : ℕ). gainTurn m energies b (start + k)) bins n) (start + n) (omega arith) (omega arith) ∙ e
+
+pub length-gains : (m start end : ℕ) (energies bins : List Float) → start ≤ end → end ≤ 21 → m * 100 ≤ length bins
+    → length (foldRange (gainTurn m energies) bins start end) ≡ length bins
+unfolding foldRange
+length-gains m start end energies bins h k l = gains-size m start energies bins (end - start) (omega arith) l
+
+pub length-cleared : (b : ℕ) (bins : List Float) → b ≤ length bins → length (cleared b bins) ≡ length bins
+unfolding cleared
+length-cleared b bins h =
+    omega (arith, length-append (take b bins) (replicate (length bins - b) zero32), length-take-le b bins h, length-replicate (length bins - b) zero32)
+
+-- the bound lies within the bins of the last band
+pub bound-in : (m end downsample : ℕ) → end ≤ 21 → bound m end downsample ≤ m * 100
+unfolding bound
+bound-in m end downsample h = go (not (eqb downsample 1)) (ltb (120 * m / downsample) (lo m end)) refl
+  where
+    go : (a b : Bool) → ltb (120 * m / downsample) (lo m end) ≡ b → cond (a && b) (120 * m / downsample) (lo m end) ≤ m * 100
+    go true true e = omega (arith, lo-in m end h, ltb-true (120 * m / downsample) (lo m end) e)
+    go true false e = lo-in m end h
+    go false b e = lo-in m end h
+
+pub length-spectrum : (m start end downsample seed : ℕ) (energies : List Float) → start ≤ end → end ≤ 21
+    → length (spectrum m start end downsample seed energies) ≡ 120 * m
+unfolding spectrum
+length-spectrum m start end downsample seed energies h k =
+    let z = replicate (120 * m) zero32 in
+    let bins = noiseShape m start seed z .bins in
+    let g = foldRange (gainTurn m energies) bins start end in
+    let lz : length z ≡ 120 * m = length-replicate (120 * m) zero32 in
+    let lb : length bins ≡ length z = length-noiseShape m start seed z (omega arith) (omega arith) in
+    let lg : length g ≡ length bins = length-gains m start end energies bins h k (omega arith) in
+    length-cleared (bound m end downsample) g (omega (arith, bound-in m end downsample k)) ∙ lg ∙ lb ∙ lz
