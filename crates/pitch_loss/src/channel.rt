@@ -63,7 +63,14 @@ fn conceal(t: &mut [f32], n: usize, lag: usize, first: bool, lpc: &[f32], filter
 
 // Conceals a lost frame of 120 x 2^lm samples; `first` says that the loss before it was none. Only samples from 1,024 on change.
 // Refused, with h as lent: h not of 2,168 samples, lpc not of 24, lm above 3, lag outside 102 to 720, period outside 15 to 1,022, tapset above 2.
-pub fn pitch_loss_channel(h: &mut [f32], lm: u32, lag: u32, first: bool, lpc: &[f32], filter: Filter) -> bool
+pub fn pitch_loss_channel(
+    h: &mut [f32],
+    lm: u32,
+    lag: u32,
+    first: bool,
+    lpc: &[f32],
+    filter: Filter,
+) -> bool
     ensures { λ r. ⌜ (r ≡ accepts (length (now (h .entry))) (length (now (lpc .entry))) lm lag filter)
         × (now (h .exit) ≡ cond (accepts (length (now (h .entry))) (length (now (lpc .entry))) lm lag filter) (pitchLoss lm (now (h .entry)) lag first (now (lpc .entry)) filter) (now (h .entry))) ⌝ }
 {

@@ -11,7 +11,7 @@ use borrow.Author.Tests.{leb-true, leb-false, le-leb, lt-leb, eqb-true, eqb-fals
 use Rattle.ref_decode.specs.State.{Core, core, noisy, searches, stereo, frame}
 use Rattle.ref_decode.specs.Refusal.{orElse, within, checkSettings, checkCount, checkLag, checkFilter, checkHistory, checkPcm, refusesState, refusal, Accepted}
 use Rattle.pitch_loss.specs.Tail.{Tail}
-use Rattle.ref_decode.specs.History.{Tails, tails, withTails}
+use Rattle.ref_decode.specs.History.{Tails, tailAt, tails, withTails}
 use Rattle.ref_decode.specs.Steps.{lagOf, covered}
 use Rattle.ref_decode.specs.Loss.{noiseTails, pitched, pitchTails, tailsAfter, blockOne, blockTwo, lagUsed, predictorUsed, historyAfter, concealed}
 use Rattle.ref_decode.proofs.Laws.{lag-low, lag-high, pitch-new, pitch-over, block-samples}

@@ -3,3 +3,4 @@ pub mod Table
 pub mod Parts
 pub mod Keep
 pub mod Limits
+pub mod Channels

@@ -15,7 +15,7 @@ use Rattle.ref_decode.specs.Refusal.{refusal, Accepted}
 use Rattle.pitch_loss.specs.Tail.{Tail}
 use Rattle.noise_loss.specs.Laid.{laid}
 use Rattle.deemphasis.specs.Deemphasis.{Sound}
-use Rattle.ref_decode.specs.History.{Tails, tails, both, ahead}
+use Rattle.ref_decode.specs.History.{Tails, tailAt, tails, both, ahead}
 use Rattle.ref_decode.specs.Steps.{block, voice, covered}
 use Rattle.ref_decode.specs.Loss.{Outcome, noiseSeed, noiseTails, pitchTails, tailsAfter, blockOne, blockTwo, seedAfter, coarseAfter, lagUsed, predictorUsed, historyAfter, sound, concealed, answered, loss}
 use Rattle.ref_decode.proofs.Laws.{block-draws, refused-number, accepted-number}

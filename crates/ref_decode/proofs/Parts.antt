@@ -14,7 +14,7 @@ use Rattle.ref_decode.specs.State.{factor, frame, stereo}
 use Rattle.ref_decode.specs.Refusal.{checkSettings, checkDownsample, within}
 use Rattle.pitch_loss.specs.Tail.{Tail}
 use Rattle.noise_loss.specs.Laid.{laid, length-laid}
-use Rattle.ref_decode.specs.History.{Tails, tails, withTails, both, ahead}
+use Rattle.ref_decode.specs.History.{Tails, tailAt, tails, withTails, both, ahead}
 use Rattle.ref_decode.specs.Steps.{covered}
 use Rattle.ref_decode.specs.declared.state.Settings.{Settings}
 
@@ -37,7 +37,7 @@ pub record Sized (t : Tails) : Type 0 where
 
 module _ (h : List Float) (l : length h ≡ 4336) where
   pub tails-sized : Sized (tails h)
-  unfolding tails
+  unfolding tails tailAt
   tails-sized = record {
     first = record { new = length-slice 1024 2048 h (omega arith); over = length-slice 2048 2168 h (omega arith) };
     second = record { new = length-slice 3192 4216 h (omega arith); over = length-slice 4216 4336 h (omega arith) };
@@ -93,7 +93,7 @@ module _ (h : List Float) (t : Tails) (l : length h ≡ 4336) (z : Sized t) wher
       old (z .first .new) (z .first .over) old-two (z .second .new) (z .second .over)
 
   pub tails-with : tails (withTails h t) ≡ t
-  unfolding withTails tails glued
+  unfolding withTails tails glued tailAt
   tails-with =
       let a = take 1024 h in
       let b = slice 2168 3192 h in
@@ -170,7 +170,7 @@ module _ (k : Settings) (good : checkSettings k ≡ 0) where
 
   -- the samples ahead of de-emphasis stand in the tails
   pub ahead-tails : (h : List Float) → ahead k h ≡ both (stereo k) (drop (1024 - frame k) ((tails h) .first .new)) (drop (1024 - frame k) ((tails h) .second .new))
-  unfolding ahead tails
+  unfolding ahead tails tailAt
   ahead-tails h =
       let p : 2048 - frame k ≡ 1024 + (1024 - frame k) = omega (arith, frame-high) in
       let q : 4216 - frame k ≡ 3192 + (1024 - frame k) = omega (arith, frame-high) in

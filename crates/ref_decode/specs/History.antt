@@ -1,7 +1,7 @@
 -- A history of 4,336 samples: of each channel 2,048, oldest first, and then 120 of overlap.
 use mathlib.Core.Bool.{Bool, true, false}
 use mathlib.Core.List.{List, [], _∷_, _++_}
-use Prim.Native.Nat.{ℕ, _-_}
+use Prim.Native.Nat.{ℕ, _+_, _-_}
 use lib.ListN.{take}
 use lib.Seq.{slice}
 use lib.Ieee.{Float}
@@ -9,16 +9,17 @@ use Rattle.ref_decode.specs.State.{frame, stereo}
 use Rattle.pitch_loss.specs.Tail.{Tail}
 use Rattle.ref_decode.specs.declared.state.Settings.{Settings}
 
+-- the newest 1,024 samples and the overlap of the channel whose samples start at `at`
+unfoldable pub tailAt : ℕ → List Float → Tail
+tailAt at h = record { new = slice (at + 1024) (at + 2048) h; over = slice (at + 2048) (at + 2168) h }
+
 -- all of a history but each channel's oldest 1,024
 pub record Tails : Type 0 where
   pub first : Tail
   pub second : Tail
 
 unfoldable pub tails : List Float → Tails
-tails h = record {
-  first = record { new = slice 1024 2048 h; over = slice 2048 2168 h };
-  second = record { new = slice 3192 4216 h; over = slice 4216 4336 h };
-}
+tails h = record { first = tailAt 0 h; second = tailAt 2168 h }
 
 -- the oldest 1,024 of each channel kept, and the rest replaced
 unfoldable pub withTails : List Float → Tails → List Float

@@ -3,10 +3,10 @@ ghost use mathlib.Core.Path.{_≡_};
 ghost use Prim.Native.Nat.{_*_, _^_, _≤_};
 ghost use Rattle.ref_decode.specs.Refusal.{checkSettings, checkDownsample, checkCount, checkLag, checkFilter, checkHistory, checkPcm, refusal, refusedWith};
 ghost use Rattle.ref_decode.specs.State.{needed};
-use pitch_loss::Filter;
 use crate::state::Settings;
 use crate::state::State;
 use crate::state::Verdict;
+use pitch_loss::Filter;
 
 // 1 to 5.
 pub(crate) fn check_settings(k: Settings) -> u32

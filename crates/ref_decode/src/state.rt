@@ -1,7 +1,6 @@
 // What a call takes and returns: the decoder's carried state, and the answer.
 ghost use mathlib.Core.Path.{_≡_};
 ghost use Rattle.ref_decode.specs.State.{numberOf, kindOf, samplesOf};
-
 use pitch_loss::Filter;
 
 // The settings of a stream; the frame is 120 * 2 ^ lm samples long.
