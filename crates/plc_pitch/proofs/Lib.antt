@@ -2,3 +2,4 @@ mod Turn
 mod Rows
 mod Near
 mod Steps
+mod Whiten

@@ -19,7 +19,7 @@ use Rattle.plc_pitch.specs.Search.{crossSum, correlation, near, fineAt, 
 use Rattle.plc_pitch.specs.Rows.{nearRow, nearOr}
 use Rattle.plc_pitch.proofs.Rows.{to-end}
 
-and-false : (p : Bool) → p && false ≡ false
+pub and-false : (p : Bool) → p && false ≡ false
 and-false true = refl
 and-false false = refl
 

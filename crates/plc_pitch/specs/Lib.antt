@@ -2,6 +2,8 @@
 pub mod Best
 pub mod BestLaws
 pub mod Search
+pub mod SearchLaws
+pub mod FlatLaws
 pub mod LagWindow
 pub mod Downsample
 pub mod Rows
