@@ -1,18 +1,22 @@
 -- Laws of plain variables that the proofs cite.
 use mathlib.Core.Path.{_≡_, refl, ap, _∙_, sym}
 use mathlib.Core.List.{List, _++_, append-nil}
-use Prim.Native.Nat.{ℕ, _+_, _≤_, _<_, _-_}
+use Prim.Native.Nat.{ℕ, _+_, _≤_, _<_, _-_, _*_, _^_}
 use native.Mathlib.Omega.{arith}
-use lib.ListN.{length, getD, take, drop, length-drop, drop-of-length-le, replicate}
+use lib.ListN.{length, getD, take, drop, length-drop, drop-of-length-le, replicate, take-append-drop}
 use lib.Seq.{getD-drop, getD-append-add, take-at}
 use lib.Dec.{ltb, eqb}
-use lib.Ieee.{Float, binary32, mul, lt, ofBits}
+use lib.Ieee.{Float, binary32, mul, lt, eq, ofBits}
 use mathlib.Core.Bool.{Bool, true, false, cond, not}
 use borrow.Author.Tests.{eqb-false}
 use Rattle.loops.specs.Front.{front, tab, length-tab, tab-same, tab-list}
 use Rattle.pitch_loss.specs.Overlap.{fromEnd, movedBack, rolled}
 use Rattle.pitch_loss.specs.Copy.{stepped}
 use Rattle.pitch_loss.specs.Guard.{scaled, energy, muted, backScale, guardedAt, guarded}
+use Rattle.pitch_loss.specs.declared.Filter.{Filter}
+use Rattle.pitch_loss.specs.Prefilter.{combFilterTo, tapGain, preFiltered}
+use Rattle.pitch_loss.specs.Loss.{frameSize}
+use lib.Pow.{pow-pos, pow-mono}
 use Rattle.loops.specs.Pick.{pick-true, pick-false}
 
 -- what stands past the outputs of a loop that fills a list from the front
@@ -91,3 +95,31 @@ module _ (s1 s2 : Float) (e y : List Float) (p : s2 ≡ energy e) where
       → (false ≡ muted s1 (energy e)) × (y ≡ guarded s1 e)
   unfolding guarded guardedAt
   guard-kept t u q = (sym (kept t), q ∙ sym (pick-false _ _ _ (kept t) ∙ pick-false _ _ _ (ap (lt s1) (sym p) ∙ u)))
+
+-- a frame is 120 to 960 samples, so the shift loses nothing
+pub frame-low : (lm : ℕ) → 120 ≤ frameSize lm
+frame-low lm = omega (arith, pow-pos lm)
+
+pub frame-high : (lm : ℕ) → lm ≤ 3 → frameSize lm ≤ 960
+frame-high lm h =
+    let m : 2 ^ lm ≤ 2 ^ 3 = pow-mono h in
+    let e : 2 ^ 3 ≡ 8 = refl in
+    omega arith
+
+-- a gain of zero leaves all
+pub pre-skip : (f : Filter) (t : List Float) → eq (f .gain) (ofBits binary32 0) ≡ true
+    → t ≡ take 1024 t ++ preFiltered f (take 1024 t) (drop 1024 t)
+unfolding preFiltered
+pre-skip f t e = sym (take-append-drop 1024 t) ∙ ap (λ z. take 1024 t ++ z) (sym (pick-true _ _ _ e))
+
+-- any other puts the filtered overlap in place of the overlap
+pub pre-put : (f : Filter) (t y : List Float) (k : ℕ) → eq (f .gain) (ofBits binary32 0) ≡ false → k ≡ length t - 1024
+    → y ≡ combFilterTo t (f .period) (tapGain f 0) (tapGain f 1) (tapGain f 2)
+    → take 1024 t ++ (y ++ drop k (drop 1024 t)) ≡ take 1024 t ++ preFiltered f (take 1024 t) (drop 1024 t)
+unfolding preFiltered
+pre-put f t y k e q p =
+    let l : length (drop 1024 t) ≤ k = omega (arith, length-drop 1024 t) in
+    let s : take 1024 t ++ drop 1024 t ≡ t = take-append-drop 1024 t in
+    ap (λ z. take 1024 t ++ (y ++ z)) (drop-of-length-le (drop 1024 t) {i = k} l)
+    ∙ ap (λ z. take 1024 t ++ z)
+    (append-nil y ∙ p ∙ ap (λ z. combFilterTo z (f .period) (tapGain f 0) (tapGain f 1) (tapGain f 2)) (sym s) ∙ sym (pick-false _ _ _ e))

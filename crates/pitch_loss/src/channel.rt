@@ -1,10 +1,9 @@
 // A pitch loss of one channel, in place.
 ghost use mathlib.Core.Path.{_≡_};
 ghost use mathlib.Core.Bool.{cond};
-ghost use mathlib.Core.List.{_++_};
-ghost use Prim.Native.Nat.{_+_, _≤_, _^_, _*_};
-ghost use lib.ListN.{length, take, drop};
-ghost use Rattle.pitch_loss.specs.Loss.{frameSize, tailNow, concealedTail, pitchLoss, accepts};
+ghost use Prim.Native.Nat.{_+_, _≤_};
+ghost use lib.ListN.{length};
+ghost use Rattle.pitch_loss.specs.Loss.{frameSize, laid, concealedTail, pitchLoss, accepts};
 use crate::Filter;
 
 fn accepted(size: usize, lpc: usize, lm: u32, lag: u32, f: Filter) -> bool
@@ -44,21 +43,38 @@ fn frame_size(lm: u32) -> usize
     120 << lm
 }
 
-// The newest 1,024 and the overlap: a frame of n comes in, and the overlap after it.
+// The coefficients as an array.
+fn coefficients(lpc: &[f32]) -> [f32; 24]
+    requires { ⌜ length (now lpc) ≡ 24 ⌝ }
+    ensures { λ r. ⌜ r ≡ now (lpc .entry) ⌝ }
+{
+    let mut c = [0.0f32; 24];
+    crate::overlap::copy_in(&mut c, lpc);
+    c
+}
+
+// On the newest 1,024 and the overlap: takes in e's first n samples, folds the next 120 into the overlap and pre-filters it.
+fn lay(t: &mut [f32], n: usize, e: &[f32], filter: Filter)
+    requires { ⌜ (length (now t) ≡ 1144) × (length (now e) ≡ n + 240) × (n ≤ 960) ⌝ }
+    requires { ⌜ (15 ≤ filter .period) × (filter .period ≤ 1022) ⌝ }
+    ensures { λ _. ⌜ now (t .exit) ≡ laid n (now (t .entry)) (now (e .entry)) filter ⌝ }
+{
+    crate::overlap::roll(&mut t[..1024], &e[..n]);
+    let w = mdct::window::window();
+    crate::overlap::fold_tail(&mut t[1024..], &w, n, e);
+    crate::prefilter::prefilter(t, filter);
+}
+
 fn conceal(t: &mut [f32], n: usize, lag: usize, first: bool, lpc: &[f32], filter: Filter)
     requires { ⌜ (length (now t) ≡ 1144) × (length (now lpc) ≡ 24) × (n ≤ 960) × (102 ≤ lag) × (lag ≤ 720) ⌝ }
     requires { ⌜ (15 ≤ filter .period) × (filter .period ≤ 1022) ⌝ }
     ensures { λ _. ⌜ now (t .exit) ≡ concealedTail n (now (t .entry)) lag first (now (lpc .entry)) filter ⌝ }
 {
-    let mut c = [0.0f32; 24];
-    crate::overlap::copy_in(&mut c, lpc);
+    let c = coefficients(lpc);
     let mut e = [0.0f32; 1200];
     let m = n + 240;
     crate::extrapolate::extrapolate(&mut e[..m], &t[..1024], lag, first, &c);
-    crate::overlap::roll(&mut t[..1024], &e[..n]);
-    let w = mdct::window::window();
-    crate::overlap::fold_tail(&mut t[1024..], &w, n, &e[..m]);
-    crate::prefilter::prefilter(t, filter);
+    lay(t, n, &e[..m], filter);
 }
 
 // Conceals a lost frame of 120 x 2^lm samples; `first` says that the loss before it was none. Only samples from 1,024 on change.

@@ -6,20 +6,23 @@ use native.Mathlib.Omega.{arith}
 use native.Mathlib.Numerals.{add-one}
 use lib.ListN.{length, getD, set, take, drop, length-set}
 use borrow.Author.Needs.{needs}
+use lib.Ieee.{Float, nan, binary32, mul, neg, ofBits}
+use Rattle.loops.specs.Front.{front, tab, length-tab, tab-none, tab-more, tab-all, tab-list}
+use Rattle.pitch_loss.specs.Extrapolate.{recent}
 use Rattle.pitch_loss.proofs.extrapolate.most_recent.Statement.{statement}
 use Rattle.pitch_loss.proofs.extrapolate.most_recent.Tie as tie
 use Rattle.pitch_loss.proofs.extrapolate.most_recent.Reads as reads
 use Rattle.pitch_loss.proofs.extrapolate.most_recent.Lts as lts
 
 abbrev Inv-loop : tie.InvT-loop
-Inv-loop new mem₀ j₀ mem j = ?
+Inv-loop new mem₀ j₀ mem j = (j ≤ 24) × (length mem₀ ≡ 24) × (length mem ≡ 24) × (mem ≡ front (tab (λ (k : ℕ). getD new (1023 - k) nan) j) mem₀ j)
 
 abbrev μ-loop : tie.MeasureT-loop
-μ-loop new mem₀ j₀ mem j = ?
+μ-loop new mem₀ j₀ mem j = 24 - j
 
 -- src/extrapolate.rt:20:5
 loop-holds : tie.Need-loop-holds Inv-loop μ-loop
-loop-holds c = search needs
+loop-holds c = (search needs, search needs, search needs, tab-none (λ (k : ℕ). getD (c .args .new .now) (1023 - k) nan) _)
 
 -- src/extrapolate.rt:21:22
 sub-mem : tie.Need-sub-mem Inv-loop μ-loop
@@ -51,11 +54,19 @@ loop-less c = search needs
 
 -- src/extrapolate.rt:20:5
 loop-again : tie.Need-loop-again Inv-loop μ-loop
-loop-again c = search needs
+loop-again c =
+    let h = c .before .before .loop in
+    let f : ℕ → Float = λ (k : ℕ). getD (c .before .before .before .args .new .now) (1023 - k) nan in
+    (search needs, search needs, simp length-set (search needs), tab-more f nan _ _ _ (h .inv .3) _ refl (search needs))
 
 -- src/extrapolate.rt:15:1
 returns : tie.Need-returns Inv-loop μ-loop
-returns c = search needs
+unfolding recent
+returns c =
+    let h = c .before .loop in
+    let f : ℕ → Float = λ (k : ℕ). getD (c .before .before .args .new .now) (1023 - k) nan in
+    let q : 24 ≡ h .j = search needs in
+    tab-all f nan _ (h .mem) (h .j) (h .inv .3) q
 
 pub most-recent-spec : {M : Type 1} → statement M
 most-recent-spec =

@@ -6,6 +6,7 @@ use native.Mathlib.Omega.{arith}
 use native.Mathlib.Numerals.{add-one}
 use lib.ListN.{length, getD, set, take, drop, length-set}
 use borrow.Author.Needs.{needs}
+use Rattle.pitch_loss.proofs.Whole.{whitened-is}
 use Rattle.pitch_loss.proofs.extrapolate.whitened.Statement.{statement}
 use Rattle.pitch_loss.proofs.extrapolate.whitened.Tie as tie
 use Rattle.pitch_loss.proofs.extrapolate.whitened.Reads as reads
@@ -31,7 +32,9 @@ celt-fir-inplace-requires c κs = search needs
 
 -- src/extrapolate.rt:26:1
 returns : tie.Need-returns
-returns c = search needs
+returns c =
+    let a = c .before .before .before .before .before .before .before .before .before .args in
+    whitened-is (a .lpc .now) (a .new .now) (a .mem .now) _ _ (search needs) (search needs) (search needs) ? (c .before .celt-fir-inplace .ensures .1)
 
 pub whitened-spec : {M : Type 1} → statement M
 whitened-spec =

@@ -6,6 +6,7 @@ use native.Mathlib.Omega.{arith}
 use native.Mathlib.Numerals.{add-one}
 use lib.ListN.{length, getD, set, take, drop, length-set}
 use borrow.Author.Needs.{needs}
+use Rattle.pitch_loss.proofs.Whole.{fit-is}
 use Rattle.pitch_loss.proofs.fit.fit.Statement.{statement}
 use Rattle.pitch_loss.proofs.fit.fit.Tie as tie
 use Rattle.pitch_loss.proofs.fit.fit.Reads as reads
@@ -54,7 +55,8 @@ same-length c = search needs
 
 -- src/fit.rt:8:1
 returns : tie.Need-returns
-returns c = search needs
+returns c =
+    fit-is _ _ _ _ _ _ _ ? ? ? ? (search needs) (c .before .before .celt-lpc .ensures .1)
 
 pub fit-spec : {M : Type 1} → statement M
 fit-spec =

@@ -6,6 +6,7 @@ use native.Mathlib.Omega.{arith}
 use native.Mathlib.Numerals.{add-one}
 use lib.ListN.{length, getD, set, take, drop, length-set}
 use borrow.Author.Needs.{needs}
+use borrow.Author.Tests.{eq-eqb, ne-eqb, le-leb, lt-leb}
 use Rattle.pitch_loss.proofs.fit.pitch_fit.Statement.{statement}
 use Rattle.pitch_loss.proofs.fit.pitch_fit.Tie as tie
 use Rattle.pitch_loss.proofs.fit.pitch_fit.Reads as reads
@@ -14,11 +15,11 @@ use Rattle.pitch_loss.proofs.fit.fit.Reads as fit-reads
 
 -- src/fit.rt:26:9
 returns : tie.Need-returns
-returns c = search needs
+returns c = let a = c .before .before .before .args in simp (ne-eqb (length (a .new .now)) 1024 (c .if1 .taken)) (refl, refl)
 
 -- src/fit.rt:29:9
 returns-2 : tie.Need-returns-2
-returns-2 c = search needs
+returns-2 c = let a = c .before .before .before .before .args in simp (eq-eqb (length (a .new .now)) 1024 (search needs), ne-eqb (length (a .lpc .now)) 24 (c .if2 .taken)) (refl, refl)
 
 -- src/fit.rt:31:5
 fit-requires : tie.Need-fit-requires
@@ -30,7 +31,7 @@ same-length c = search needs
 
 -- src/fit.rt:21:1
 returns-3 : tie.Need-returns-3
-returns-3 c = search needs
+returns-3 c = let a = c .before .before .before .before .before .before .before .before .args in simp (eq-eqb (length (a .new .now)) 1024 (search needs), eq-eqb (length (a .lpc .now)) 24 (search needs)) (refl, c .before .before .fit .ensures)
 
 pub pitch-fit-spec : {M : Type 1} → statement M
 pitch-fit-spec = tie.close (tie.spec returns returns-2 fit-requires same-length returns-3)

@@ -6,6 +6,8 @@ use native.Mathlib.Omega.{arith}
 use native.Mathlib.Numerals.{add-one}
 use lib.ListN.{length, getD, set, take, drop, length-set}
 use borrow.Author.Needs.{needs}
+use Rattle.pitch_loss.specs.Prefilter.{combFilterTo, tapGain}
+use Rattle.pitch_loss.proofs.Laws.{pre-skip, pre-put}
 use Rattle.pitch_loss.proofs.prefilter.prefilter.Statement.{statement}
 use Rattle.pitch_loss.proofs.prefilter.prefilter.Tie as tie
 use Rattle.pitch_loss.proofs.prefilter.prefilter.Reads as reads
@@ -16,7 +18,7 @@ use Rattle.pitch_loss.proofs.prefilter.tap_gains.Reads as tap-gains-rea
 
 -- src/prefilter.rt:54:9
 returns : tie.Need-returns
-returns c = search needs
+returns c = pre-skip _ _ (c .if1 .taken)
 
 -- src/prefilter.rt:56:18
 cast-period : tie.Need-cast-period
@@ -60,7 +62,9 @@ same-length c = search needs
 
 -- src/prefilter.rt:49:1
 returns-2 : tie.Need-returns-2
-returns-2 c = search needs
+returns-2 c =
+    let a = c .before .before .before .before .before .before .before .before .before .before .before .before .before .before .args in
+    pre-put (a .f) (a .t .now) _ _ ? refl ?
 
 pub prefilter-spec : {M : Type 1} → statement M
 prefilter-spec =

@@ -6,6 +6,8 @@ use native.Mathlib.Omega.{arith}
 use native.Mathlib.Numerals.{add-one}
 use lib.ListN.{length, getD, set, take, drop, length-set}
 use borrow.Author.Needs.{needs}
+use lib.Ieee.{Float, nan, binary32, mul, neg, ofBits}
+use Rattle.pitch_loss.specs.Prefilter.{tapGain}
 use Rattle.pitch_loss.proofs.prefilter.tap_gains.Statement.{statement}
 use Rattle.pitch_loss.proofs.prefilter.tap_gains.Tie as tie
 use Rattle.pitch_loss.proofs.prefilter.tap_gains.Reads as reads
@@ -30,7 +32,14 @@ array-read-t15 c = search needs
 
 -- src/prefilter.rt:36:1
 returns : tie.Need-returns
-returns c = search needs
+unfolding tapGain
+returns c =
+    let q = c .before .comb-gains .ensures in
+    let g : Float = neg (c .before .before .args .f .gain) in (
+      ap (λ z. mul binary32 g (getD z 0 nan)) q,
+      ap (λ z. mul binary32 g (getD z 1 nan)) q,
+      ap (λ z. mul binary32 g (getD z 2 nan)) q,
+    )
 
 pub tap-gains-spec : {M : Type 1} → statement M
 tap-gains-spec =

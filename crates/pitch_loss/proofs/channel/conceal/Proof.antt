@@ -1,0 +1,80 @@
+use mathlib.Core.Path.{_≡_, refl, ap, _∙_, sym}
+use mathlib.Core.List.{List, [], _∷_, _++_}
+use mathlib.Core.Logic.{⊎-elim}
+use Prim.Native.Nat.{ℕ, zero, suc, _+_, _≤_, _<_, _-_}
+use native.Mathlib.Omega.{arith}
+use native.Mathlib.Numerals.{add-one}
+use lib.ListN.{length, getD, set, take, drop, length-set}
+use borrow.Author.Needs.{needs}
+use Rattle.pitch_loss.proofs.channel.conceal.Statement.{statement}
+use Rattle.pitch_loss.proofs.channel.conceal.Tie as tie
+use Rattle.pitch_loss.proofs.channel.conceal.Reads as reads
+use Rattle.pitch_loss.proofs.channel.conceal.Lts as lts
+use Rattle.pitch_loss.proofs.channel.coefficients.Reads as coefficients-reads
+use Rattle.pitch_loss.proofs.channel.lay.Reads as lay-reads
+use Rattle.pitch_loss.proofs.extrapolate.extrapolate.Reads as extrapolate-reads
+
+-- src/channel.rt:73:13
+coefficients-requires : tie.Need-coefficients-requires
+coefficients-requires c κs = search needs
+
+-- src/channel.rt:75:13
+add-m : tie.Need-add-m
+add-m c = search needs
+
+-- src/channel.rt:76:37
+array-borrow-prefix-e : tie.Need-array-borrow-prefix-e
+array-borrow-prefix-e c = search needs
+
+-- src/channel.rt:76:37
+slice-aggregate-extrapolate : tie.Need-slice-aggregate-extrapolate
+slice-aggregate-extrapolate c = search needs
+
+-- src/channel.rt:76:50
+slice-reshare-prefix-extrapolate : tie.Need-slice-reshare-prefix-extrapolate
+slice-reshare-prefix-extrapolate c = search needs
+
+-- src/channel.rt:76:50
+slice-aggregate-extrapolate-2 : tie.Need-slice-aggregate-extrapolate-2
+slice-aggregate-extrapolate-2 c = search needs
+
+-- src/channel.rt:76:5
+extrapolate-requires : tie.Need-extrapolate-requires
+extrapolate-requires c κs = search needs
+
+-- src/channel.rt:77:15
+array-share-prefix-e : tie.Need-array-share-prefix-e
+array-share-prefix-e c = search needs
+
+-- src/channel.rt:77:15
+slice-aggregate-lay : tie.Need-slice-aggregate-lay
+slice-aggregate-lay c = search needs
+
+-- src/channel.rt:77:5
+lay-requires : tie.Need-lay-requires
+lay-requires c κs = search needs
+
+-- src/channel.rt:68:1
+same-length : tie.Need-same-length
+same-length c = search needs
+
+-- src/channel.rt:68:1
+returns : tie.Need-returns
+returns c = search needs
+
+pub conceal-spec : {M : Type 1} → statement M
+conceal-spec =
+    tie.close
+    (tie.spec
+    coefficients-requires
+    add-m
+    array-borrow-prefix-e
+    slice-aggregate-extrapolate
+    slice-reshare-prefix-extrapolate
+    slice-aggregate-extrapolate-2
+    extrapolate-requires
+    array-share-prefix-e
+    slice-aggregate-lay
+    lay-requires
+    same-length
+    returns)

@@ -1,0 +1,65 @@
+use mathlib.Core.Path.{_≡_, refl, ap, _∙_, sym}
+use mathlib.Core.List.{List, [], _∷_, _++_}
+use mathlib.Core.Logic.{⊎-elim}
+use Prim.Native.Nat.{ℕ, zero, suc, _+_, _≤_, _<_, _-_}
+use native.Mathlib.Omega.{arith}
+use native.Mathlib.Numerals.{add-one}
+use lib.ListN.{length, getD, set, take, drop, length-set}
+use borrow.Author.Needs.{needs}
+use Rattle.pitch_loss.proofs.channel.pitch_loss_channel.Statement.{statement}
+use Rattle.pitch_loss.proofs.channel.pitch_loss_channel.Tie as tie
+use Rattle.pitch_loss.proofs.channel.pitch_loss_channel.Reads as reads
+use Rattle.pitch_loss.proofs.channel.pitch_loss_channel.Lts as lts
+use Rattle.pitch_loss.proofs.channel.accepted.Reads as accepted-reads
+use Rattle.pitch_loss.proofs.channel.conceal.Reads as conceal-reads
+use Rattle.pitch_loss.proofs.channel.frame_size.Reads as frame-size-reads
+
+-- src/channel.rt:86:8
+accepted-requires : tie.Need-accepted-requires
+accepted-requires c κs = search needs
+
+-- src/channel.rt:87:13
+frame-size-requires : tie.Need-frame-size-requires
+frame-size-requires c κs = search needs
+
+-- src/channel.rt:88:17
+sub-conceal : tie.Need-sub-conceal
+sub-conceal c = search needs
+
+-- src/channel.rt:88:17
+part-conceal-start : tie.Need-part-conceal-start
+part-conceal-start c = search needs
+
+-- src/channel.rt:88:17
+part-conceal-end : tie.Need-part-conceal-end
+part-conceal-end c = search needs
+
+-- src/channel.rt:88:9
+conceal-requires : tie.Need-conceal-requires
+conceal-requires c κs = search needs
+
+-- src/channel.rt:89:9
+same-length : tie.Need-same-length
+same-length c = search needs
+
+-- src/channel.rt:89:9
+returns : tie.Need-returns
+returns c = search needs
+
+-- src/channel.rt:82:1
+returns-2 : tie.Need-returns-2
+returns-2 c = search needs
+
+pub pitch-loss-channel-spec : {M : Type 1} → statement M
+pitch-loss-channel-spec =
+    tie.close
+    (tie.spec
+    accepted-requires
+    frame-size-requires
+    sub-conceal
+    part-conceal-start
+    part-conceal-end
+    conceal-requires
+    same-length
+    returns
+    returns-2)
