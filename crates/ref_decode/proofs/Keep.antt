@@ -12,8 +12,8 @@ use Rattle.ref_decode.specs.State.{Core, core, noisy, searches, stereo, 
 use Rattle.ref_decode.specs.Refusal.{orElse, within, checkSettings, checkCount, checkLag, checkFilter, checkHistory, checkPcm, refusesState, refusal, Accepted}
 use Rattle.pitch_loss.specs.Tail.{Tail}
 use Rattle.ref_decode.specs.History.{Tails, tailAt, tails, withTails}
-use Rattle.ref_decode.specs.Steps.{lagOf, covered}
-use Rattle.ref_decode.specs.Loss.{noiseTails, pitched, pitchTails, tailsAfter, blockOne, blockTwo, lagUsed, predictorUsed, historyAfter, concealed}
+use Rattle.ref_decode.specs.Steps.{lagOf, pitch, covered}
+use Rattle.ref_decode.specs.Loss.{blockTails, channelTails, tailsAfter, lagUsed, historyAfter, concealed}
 use Rattle.ref_decode.proofs.Laws.{lag-low, lag-high, pitch-new, pitch-over, block-samples}
 use Rattle.ref_decode.specs.declared.state.Settings.{Settings}
 use Rattle.ref_decode.specs.declared.state.State.{State}
@@ -110,23 +110,23 @@ module _ (s : State) (h : List Float) (o : Ok s h) where
   now : Sized (tails h)
   now = tails-sized h (o .history)
 
-  pitched-sized : (lag : ℕ) (c : List Float) (t : Tail) → TailSized t → TailSized (pitched s lag c t)
-  unfolding pitched
-  pitched-sized lag c t z = record {
-    new = pitch-new (s .settings) t lag _ c (s .filter) (omega (arith, frame-high (s .settings) (o .settings), z .new)) ∙ z .new;
-    over = pitch-over (s .settings) t lag _ c (s .filter);
+  pitched-sized : (lag : ℕ) (first : Bool) (c : List Float) (t : Tail) → TailSized t → TailSized (pitch (s .settings) t lag first c (s .filter))
+  pitched-sized lag first c t z = record {
+    new = pitch-new (s .settings) t lag first c (s .filter) (omega (arith, frame-high (s .settings) (o .settings), z .new)) ∙ z .new;
+    over = pitch-over (s .settings) t lag first c (s .filter);
   }
 
   after-sized : (lag : ℕ) → Sized (tailsAfter s lag (tails h))
-  unfolding tailsAfter noiseTails pitchTails blockOne blockTwo
-  after-sized lag = tails-cond (noisy (core s))
+  unfolding tailsAfter blockTails channelTails
+  after-sized lag =
+      tails-cond (noisy (core s))
       (record {
         first = covered-sized (s .settings) (o .settings) _ (now .first) _ (block-samples (s .settings) _ _);
         second = tail-cond (stereo (s .settings)) (covered-sized (s .settings) (o .settings) _ (now .second) _ (block-samples (s .settings) _ _)) (now .second);
       })
       (record {
-        first = pitched-sized lag _ _ (now .first);
-        second = tail-cond (stereo (s .settings)) (pitched-sized lag _ _ (now .second)) (now .second);
+        first = pitched-sized lag _ _ _ (now .first);
+        second = tail-cond (stereo (s .settings)) (pitched-sized lag _ _ _ (now .second)) (now .second);
       })
 
   -- the tails after an accepted loss are those that it made

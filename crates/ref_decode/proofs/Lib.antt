@@ -4,3 +4,5 @@ pub mod Parts
 pub mod Keep
 pub mod Limits
 pub mod Channels
+pub mod Voices
+pub mod Pitches

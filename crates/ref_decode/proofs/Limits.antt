@@ -17,7 +17,7 @@ use Rattle.noise_loss.specs.Laid.{laid}
 use Rattle.deemphasis.specs.Deemphasis.{Sound}
 use Rattle.ref_decode.specs.History.{Tails, tailAt, tails, both, ahead}
 use Rattle.ref_decode.specs.Steps.{block, voice, covered}
-use Rattle.ref_decode.specs.Loss.{Outcome, noiseSeed, noiseTails, pitchTails, tailsAfter, blockOne, blockTwo, seedAfter, coarseAfter, lagUsed, predictorUsed, historyAfter, sound, concealed, answered, loss}
+use Rattle.ref_decode.specs.Loss.{Outcome, blocksSeed, blockTails, noiseSeed, noiseTails, pitchTails, tailsAfter, blockOne, blockTwo, seedAfter, coarseAfter, lagUsed, predictorUsed, historyAfter, sound, concealed, answered, loss}
 use Rattle.ref_decode.proofs.Laws.{block-draws, refused-number, accepted-number}
 use Rattle.ref_decode.specs.declared.state.Settings.{Settings}
 use Rattle.ref_decode.specs.declared.state.State.{State}
@@ -147,7 +147,7 @@ module _ (s : State) (h : List Float) (o : Ok s h) (z : noisy (core s) ≡ true)
   noise-tails = after-tails s h o ∙ ap (λ b. cond b (noiseTails (core s) (tails h)) (pitchTails s (lagUsed s h) (tails h))) z
 
   noise-ahead : ahead (s .settings) (historyAfter s h) ≡ heard (core s) ((tails h) .first .over) ((tails h) .second .over)
-  unfolding heard noiseTails
+  unfolding heard blockTails blockOne blockTwo
   noise-ahead =
       let k = s .settings in
       let w = tails-sized h (o .history) in
@@ -159,11 +159,11 @@ module _ (s : State) (h : List Float) (o : Ok s h) (z : noisy (core s) ≡ true)
       ∙ covered-newest k (o .settings) _ (w .second) _)
 
   noise-over : (tails (historyAfter s h)) .first .over ≡ drop (frame (s .settings)) ((blockOne (core s)) .samples)
-  unfolding noiseTails covered
+  unfolding blockTails covered blockOne blockTwo
   noise-over = ap (λ (t : Tails). t .first .over) noise-tails
 
   noise-over-two : stereo (s .settings) ≡ true → (tails (historyAfter s h)) .second .over ≡ drop (frame (s .settings)) ((blockTwo (core s)) .samples)
-  unfolding noiseTails covered
+  unfolding blockTails covered blockOne blockTwo
   noise-over-two b =
       ap (λ (t : Tails). t .second .over) noise-tails
       ∙ ap (λ c. (cond c (covered (s .settings) ((blockTwo (core s)) .samples) ((tails h) .second)) ((tails h) .second)) .over) b
@@ -243,7 +243,7 @@ record DrawsC (s : State) (o : Outcome) : Type 0 where
 
 module _ (s : State) (h : List Float) (o : Ok s h) where
   noise-seed : noiseSeed (core s) ≡ draws (perLoss (s .settings)) (s .seed)
-  unfolding noiseSeed blockOne blockTwo stereo perLoss
+  unfolding blocksSeed blockOne blockTwo stereo perLoss
   noise-seed =
       go (eqb (s .settings .channels) 2) refl
     where

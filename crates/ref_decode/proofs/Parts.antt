@@ -36,12 +36,17 @@ pub record Sized (t : Tails) : Type 0 where
   pub second : TailSized (t .second)
 
 module _ (h : List Float) (l : length h ≡ 4336) where
+  pub first-sized : TailSized (tailAt 0 h)
+  unfolding tailAt
+  first-sized = record { new = length-slice 1024 2048 h (omega arith); over = length-slice 2048 2168 h (omega arith) }
+
+  pub second-sized : TailSized (tailAt 2168 h)
+  unfolding tailAt
+  second-sized = record { new = length-slice 3192 4216 h (omega arith); over = length-slice 4216 4336 h (omega arith) }
+
   pub tails-sized : Sized (tails h)
   unfolding tails tailAt
-  tails-sized = record {
-    first = record { new = length-slice 1024 2048 h (omega arith); over = length-slice 2048 2168 h (omega arith) };
-    second = record { new = length-slice 3192 4216 h (omega arith); over = length-slice 4216 4336 h (omega arith) };
-  }
+  tails-sized = record { first = first-sized; second = second-sized }
 
 module _ (a n v b m w : List Float) (la : length a ≡ 1024) (ln : length n ≡ 1024) (lv : length v ≡ 120)
     (lb : length b ≡ 1024) (lm : length m ≡ 1024) (lw : length w ≡ 120) where

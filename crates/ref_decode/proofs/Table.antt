@@ -6,9 +6,9 @@ use native.Mathlib.Omega.{arith}
 use lib.Dec.{leb, ltb, eqb}
 use native.Mathlib.Nat.{pow-le-pow-right, mod-eq-of-lt, le-trans, mul-le-mul-right, div-le-self}
 use lib.Dec.{lit<}
-use borrow.Author.Tests.{leb-true, leb-false, lt-ltb, le-ltb, le-leb, lt-leb, eq-eqb, ne-eqb}
+use borrow.Author.Tests.{leb-true, leb-false, ltb-false, lt-ltb, le-ltb, le-leb, lt-leb, eq-eqb, ne-eqb}
 use Rattle.ref_decode.specs.Refusal.{orElse, within, checkSettings, checkDownsample, checkLag, checkFilter}
-use Rattle.ref_decode.proofs.Parts.{passed, lm-small, channels-high, downsample-passed}
+use Rattle.ref_decode.proofs.Parts.{passed, and-true, lm-small, channels-high, downsample-passed}
 use Rattle.pitch_loss.specs.declared.Filter.{Filter}
 use Rattle.ref_decode.specs.declared.state.Settings.{Settings}
 
@@ -196,3 +196,23 @@ module _ (k : Settings) (good : checkSettings k ≡ 0) where
   needed-small n e =
       le-trans (mul-le-mul-right (n / k .downsample) (channels-high k good))
       (omega (arith, div-le-self n (k .downsample), frame-most (k .lm) (lm-small k good)))
+
+-- what passes 8
+module _ (f : Filter) (good : checkFilter f ≡ 0) where
+  period-within : (within 15 1022 (f .period) ≡ true) × (ltb 2 (f .tapset) ≡ false)
+  unfolding checkFilter
+  period-within = go (within 15 1022 (f .period)) (ltb 2 (f .tapset)) refl refl good
+    where
+      go : (a b : Bool) → within 15 1022 (f .period) ≡ a → ltb 2 (f .tapset) ≡ b → cond {A = ℕ} (not a || b) 8 0 ≡ 0 → (a ≡ true) × (b ≡ false)
+      go true false p q e = (refl, refl)
+      go true true p q e = let z : ⊥ = omega arith in absurd z
+      go false b p q e = let z : ⊥ = omega arith in absurd z
+
+  pub period-low : 15 ≤ f .period
+  period-low = leb-true 15 (f .period) ((and-true (leb 15 (f .period)) (leb (f .period) 1022) (period-within .0)) .0)
+
+  pub period-high : f .period ≤ 1022
+  period-high = leb-true (f .period) 1022 ((and-true (leb 15 (f .period)) (leb (f .period) 1022) (period-within .0)) .1)
+
+  pub tapset-high : f .tapset ≤ 2
+  tapset-high = ltb-false 2 (f .tapset) (period-within .1)

@@ -1,12 +1,12 @@
 -- One loss: a call to conceal a frame, lent a history and a PCM buffer.
-use mathlib.Core.Bool.{cond}
+use mathlib.Core.Bool.{Bool, cond}
 use mathlib.Core.List.{List, [], _++_}
 use Prim.Native.Nat.{ℕ, zero, suc, _+_}
 use lib.ListN.{length, take, drop}
 use lib.Dec.{eqb}
 use lib.Ieee.{Float}
-use Rattle.pitch_loss.specs.Tail.{Tail}
 use Rattle.pitch_loss.specs.Fit.{pitchFit}
+use Rattle.pitch_loss.specs.declared.Filter.{Filter}
 use Rattle.noise_loss.specs.Energies.{readEnergies}
 use Rattle.noise_loss.specs.Block.{Block}
 use Rattle.deemphasis.specs.Deemphasis.{Sound}
@@ -14,11 +14,29 @@ use Rattle.ref_decode.specs.State.{Core, core, needed, stereo, noisy, se
 use Rattle.ref_decode.specs.Refusal.{refusal, refusedWith}
 use Rattle.ref_decode.specs.History.{Tails, tails, withTails, ahead}
 use Rattle.ref_decode.specs.Steps.{lagOf, pitch, lower, block, voice, covered}
+use Rattle.ref_decode.specs.declared.state.Settings.{Settings}
 use Rattle.ref_decode.specs.declared.state.State.{State}
 use Rattle.ref_decode.specs.declared.state.Verdict.{Verdict}
 use Rattle.ref_decode.specs.declared.state.Verdict.the-variants.{Pitch, Noise}
 
 -- ---- the noise path: all of it but the old overlap's part is a function of the core
+
+-- the blocks of both channels' energies, 25 of each
+abbrev pub firstBlock : Settings → ℕ → List Float → Block
+firstBlock k seed e = block k seed (take 25 e)
+
+-- it goes on from the first one's seed
+abbrev pub secondBlock : Settings → ℕ → List Float → Block
+secondBlock k seed e = block k (firstBlock k seed e .seed) (drop 25 e)
+
+unfoldable pub blocksSeed : Settings → ℕ → List Float → ℕ
+blocksSeed k seed e = cond (stereo k) (secondBlock k seed e .seed) (firstBlock k seed e .seed)
+
+unfoldable pub blockTails : Settings → ℕ → List Float → Tails → Tails
+blockTails k seed e t = record {
+  first = covered k (firstBlock k seed e .samples) (t .first);
+  second = cond (stereo k) (covered k (secondBlock k seed e .samples) (t .second)) (t .second);
+}
 
 -- the coarse energies after it
 unfoldable pub lowered : Core → List Float
@@ -29,39 +47,38 @@ unfoldable pub energies : Core → List Float
 energies c = readEnergies (c .count) (lowered c) (c .background)
 
 unfoldable pub blockOne : Core → Block
-blockOne c = block (c .settings) (c .seed) (take 25 (energies c))
+blockOne c = firstBlock (c .settings) (c .seed) (energies c)
 
 unfoldable pub blockTwo : Core → Block
-blockTwo c = block (c .settings) ((blockOne c) .seed) (drop 25 (energies c))
+blockTwo c = secondBlock (c .settings) (c .seed) (energies c)
 
-unfoldable pub noiseSeed : Core → ℕ
-noiseSeed c = cond (stereo (c .settings)) ((blockTwo c) .seed) ((blockOne c) .seed)
+abbrev pub noiseSeed : Core → ℕ
+noiseSeed c = blocksSeed (c .settings) (c .seed) (energies c)
 
-unfoldable pub noiseTails : Core → Tails → Tails
-noiseTails c t = record {
-  first = covered (c .settings) ((blockOne c) .samples) (t .first);
-  second = cond (stereo (c .settings)) (covered (c .settings) ((blockTwo c) .samples) (t .second)) (t .second);
-}
+abbrev pub noiseTails : Core → Tails → Tails
+noiseTails c t = blockTails (c .settings) (c .seed) (energies c) t
 
 -- ---- the pitch path: its first loss searches the whole history, and every later one reads the tails alone
 
 unfoldable pub lagUsed : State → List Float → ℕ
 lagUsed s h = cond (searches s) (lagOf (s .settings) h) (s .lag)
 
-unfoldable pub fitted : State → Tails → List Float
-fitted s t = pitchFit (t .first .new) ++ cond (stereo (s .settings)) (pitchFit (t .second .new)) (drop 24 (s .predictor))
+-- the used channels' coefficients fitted anew; an unused channel's are carried
+unfoldable pub fittedTo : Settings → List Float → Tails → List Float
+fittedTo k predictor t = pitchFit (t .first .new) ++ cond (stereo k) (pitchFit (t .second .new)) (drop 24 predictor)
 
 unfoldable pub predictorUsed : State → Tails → List Float
-predictorUsed s t = cond (searches s) (fitted s t) (s .predictor)
+predictorUsed s t = cond (searches s) (fittedTo (s .settings) (s .predictor) t) (s .predictor)
 
-unfoldable pub pitched : State → ℕ → List Float → Tail → Tail
-pitched s lag c t = pitch (s .settings) t lag (eqb (s .«loss_count») 0) c (s .filter)
-
-unfoldable pub pitchTails : State → ℕ → Tails → Tails
-pitchTails s lag t = record {
-  first = pitched s lag (take 24 (predictorUsed s t)) (t .first);
-  second = cond (stereo (s .settings)) (pitched s lag (drop 24 (predictorUsed s t)) (t .second)) (t .second);
+-- each used channel, by its own 24 coefficients
+unfoldable pub channelTails : Settings → ℕ → Bool → List Float → Filter → Tails → Tails
+channelTails k lag first c f t = record {
+  first = pitch k (t .first) lag first (take 24 c) f;
+  second = cond (stereo k) (pitch k (t .second) lag first (drop 24 c) f) (t .second);
 }
+
+abbrev pub pitchTails : State → ℕ → Tails → Tails
+pitchTails s lag t = channelTails (s .settings) lag (eqb (s .«loss_count») 0) (predictorUsed s t) (s .filter) t
 
 -- ---- either path, and de-emphasis
 
@@ -79,6 +96,46 @@ coarseAfter c = cond (noisy c) (lowered c) (c .coarse)
 
 unfoldable pub sound : State → List Float → Sound
 sound s h = voice (s .settings) (ahead (s .settings) (historyAfter s h)) (s .memories)
+
+-- a state after each step: the noise path, the pitch path, de-emphasis
+unfoldable pub noiseState : State → State
+noiseState s = record {
+  settings = s .settings;
+  «loss_count» = s .«loss_count»;
+  seed = noiseSeed (core s);
+  lag = s .lag;
+  filter = s .filter;
+  coarse = lowered (core s);
+  background = s .background;
+  memories = s .memories;
+  predictor = s .predictor;
+}
+
+unfoldable pub pitchState : State → List Float → State
+pitchState s h = record {
+  settings = s .settings;
+  «loss_count» = s .«loss_count»;
+  seed = s .seed;
+  lag = lagUsed s h;
+  filter = s .filter;
+  coarse = s .coarse;
+  background = s .background;
+  memories = s .memories;
+  predictor = predictorUsed s (tails h);
+}
+
+unfoldable pub finishedState : State → List Float → State
+finishedState s h = record {
+  settings = s .settings;
+  «loss_count» = s .«loss_count» + 1;
+  seed = s .seed;
+  lag = s .lag;
+  filter = s .filter;
+  coarse = s .coarse;
+  background = s .background;
+  memories = voice (s .settings) (ahead (s .settings) h) (s .memories) .memories;
+  predictor = s .predictor;
+}
 
 -- ---- the whole call
 
