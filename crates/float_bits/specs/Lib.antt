@@ -4,5 +4,6 @@ pub mod Formats
 pub mod Root
 pub mod Words
 pub mod Noise
+pub mod Zeros
 pub mod Steps
 pub mod Marked
