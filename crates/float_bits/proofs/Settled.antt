@@ -17,7 +17,7 @@ use lib.Ieee.Positive.{positive, above, positive-of-value, value-pos, above-of-l
 use Rattle.loops.specs.Fold.{foldTo}
 use Rattle.loops.specs.Sum.{sumTo}
 use Rattle.float_bits.specs.Extremes.{minOf, maxOf}
-use Rattle.float_bits.specs.Zeros.{isZero, Apart, min-either, max-either}
+use Rattle.float_bits.proofs.Zeros.{isZero, Apart, min-either, max-either}
 use Rattle.float_bits.proofs.Roots.{shape}
 use Rattle.float_bits.proofs.Nearest.{units-of}
 

@@ -4,6 +4,5 @@ pub mod Formats
 pub mod Root
 pub mod Words
 pub mod Noise
-pub mod Zeros
 pub mod Steps
 pub mod Marked

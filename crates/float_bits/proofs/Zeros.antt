@@ -1,5 +1,5 @@
 -- Which of two equal values `minOf` and `maxOf` take shows only at two zeros of unlike sign, and no step meets those:
--- one value of each pair is a constant other than zero, or an energy that starts from 1.
+-- see `Settled`. Assumes nothing.
 use mathlib.Core.Path.{_≡_, refl, sym, ap, _∙_, subst}
 use Prim.Native.Nat.{ℕ, zero, suc, _+_, _-_, _*_, _/_, _^_, _≤_, _<_}
 use native.Mathlib.Nat.{mul-right-comm, mul-pos, le-of-lt, lt-of-lt-of-le, zero-lt-suc}
