@@ -19,7 +19,7 @@ use Rattle.float_bits.proofs.Roots.{pow-le-back, some-left, turn, start
 use Rattle.float_bits.proofs.Sqrt.{root-to, root-value}
 
 -- ---- a finite f32 above zero is a whole number of units
-abbrev Units : Float → Type 0
+abbrev pub Units : Float → Type 0
 Units x = (a : ℕ) × HasValue x false a (2 ^ 149) × (a < 2 ^ 277)
 
 count : (m : ℕ) (e : ℤ) → down e ≤ 2 ^ 149 → (a : ℕ) × (m * up e * 2 ^ 149 ≡ a * down e)
@@ -40,7 +40,7 @@ bounded v a d e h =
     lt-of-mul-lt-mul-right d
     (lt-of-le-of-lt (le-of-eq (sym e)) (subst (λ (z : ℕ). v * 2 ^ 149 < z) (mul-right-comm (2 ^ 128) d (2 ^ 149)) (mul-lt-mul-of-pos-right h (pow-pos 149))))
 
-units-of : (x : Float) → T (fits binary32 x) → T (positive x) → Units x
+pub units-of : (x : Float) → T (fits binary32 x) → T (positive x) → Units x
 unfolding fits
 units-of nan f p = absurd p
 units-of (inf s) f p = absurd p

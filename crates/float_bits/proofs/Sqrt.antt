@@ -1,8 +1,8 @@
--- `sqrtOf`, which rounds a root through a half unit, is what the code works out, and the nearest f32. Assumes nothing.
+-- `sqrtOf`, which rounds a root through a half unit, is what the code works out. Assumes nothing.
 use mathlib.Core.Path.{_≡_, refl, sym, ap, _∙_, subst}
 use mathlib.Core.Logic.{_⊎_, inl, inr}
 use Prim.Native.Nat.{ℕ, zero, suc, _+_, _-_, _*_, _/_, _%_, _^_, _≤_, _<_, zero-le, compare}
-use native.Mathlib.Nat.{le-trans, le-of-eq, lt-of-le-of-lt, lt-of-lt-of-le, lt-of-not-le, not-le-of-lt, eq-or-lt-of-le, mul-assoc, mul-one, mul-right-comm, mul-pos, mul-le-mul, mul-le-mul-right, mul-lt-mul-of-pos-right, lt-of-mul-lt-mul-right, mul-div-cancel, mod-lt, div-add-mod', pow-succ', mul-mul-mul-comm}
+use native.Mathlib.Nat.{le-trans, le-of-lt, le-of-eq, lt-of-le-of-lt, lt-of-lt-of-le, lt-of-not-le, not-le-of-lt, eq-or-lt-of-le, mul-assoc, mul-one, mul-right-comm, mul-pos, mul-le-mul, mul-le-mul-right, mul-lt-mul-of-pos-right, lt-of-mul-lt-mul-right, mul-div-cancel, mod-lt, div-add-mod', pow-succ', mul-mul-mul-comm}
 use native.Mathlib.Omega.{arith}
 use mathlib.Core.Bool.{Bool, true, false, cond}
 use lib.Dec.{T, leb, eqb, lit<, lit≤}
@@ -44,10 +44,7 @@ module _ (n r : ℕ) (h : RootOf r n) where
 
   over : (x : ℕ) → x * x < n → (b : Bool) → eqb (r * r) n ≡ b → 2 * x < Twice b
   over x l true e = let g : x < r = less-root x r (lt-of-lt-of-le l (le-of-eq (sym (eqb-true (r * r) n e)))) in omega arith
-  over x l false e = let g : x < r + 1 = less-root x (r + 1) (lt-of-lt-of-le l (le-of-lt' (h .1))) in omega arith
-    where
-      le-of-lt' : {a b : ℕ} → a < b → a ≤ b
-      le-of-lt' p = omega arith
+  over x l false e = let g : x < r + 1 = less-root x (r + 1) (lt-of-lt-of-le l (le-of-lt (h .1))) in omega arith
 
   under : (y : ℕ) → n < y * y → (b : Bool) → Twice b < 2 * y
   under y l b = let g : r < y = less-root r y (lt-of-le-of-lt (h .0) l) in go b g

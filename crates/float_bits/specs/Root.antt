@@ -15,8 +15,8 @@ unfoldable pub twiceRoot : ℕ → ℕ
 twiceRoot n = let r = rootTo 213 n in 2 * r + cond (eqb (r * r) n) 0 1
 
 -- NaN, +infinity and zeros give themselves, and what is below zero gives NaN.
--- Else x is n units of 2 ^ -298, so √x is √n units of 2 ^ -149. Every value that an f32 between two of these could be
--- rounded to or from is a whole number of such units, so the half unit that stands for a root's fraction is rounded as the root is.
+-- Else x is n units of 2 ^ -298, so √x is √n units of 2 ^ -149. No root is below 2 ^ -75, so each f32 near it, and each
+-- middle of two, is a whole number of these units. Of a fraction in √n it only counts that there is one: half a unit stands for it.
 unfoldable pub sqrtOf : Float → Float
 sqrtOf nan = nan
 sqrtOf (inf true) = nan
