@@ -1,0 +1,200 @@
+"""States (document order, 4,497 words) by category, seeded and repeatable."""
+from array import array
+from random import Random
+
+import words as w
+
+LM, CHANNELS, START, END, DOWNSAMPLE, LOSSES, SEED, LAG, PERIOD, GAIN, TAPSET = range(11)
+COARSE, BACKGROUND, DEEMPH, LPC, HISTORY, STATE = 11, 61, 111, 113, 161, 4497
+FACTORS = [1, 2, 3, 4, 6]
+PERIODS = [15, 16, 17, 30, 60, 119, 120, 121, 122, 123, 124, 300, 720, 1020, 1021, 1022]
+GAINS = [0x00000000, 0x80000000, 0x7FC00000, 0xFFC12345, 0x3E400000, 0x3F400000, 0xBF000000,
+         0x3F800000, 0x41200000, 0x7F800000, 0x00000001, 0x7F7FFFFF]
+
+
+class States:
+    def __init__(self, seed):
+        self.seed = seed
+        self.sounds = w.Sounds(seed)
+
+    def categories(self):
+        return {
+            "tone": lambda r: self.ordinary(r, "tone"),
+            "voice": lambda r: self.ordinary(r, "voice"),
+            "drum": lambda r: self.ordinary(r, "drum"),
+            "noise": lambda r: self.ordinary(r, "noise"),
+            "silence": lambda r: self.ordinary(r, "silence"),
+            "near ties": self.near_ties,
+            "swelling": self.swelling,
+            "filters": self.filters,
+            "comfort noise": self.comfort_noise,
+            "energy edges": self.energy_edges,
+            "large counts": self.large_counts,
+            "overflow": self.overflow,
+            "hostile words": self.hostile,
+            "random words": self.random_words,
+            "one limit": self.one_limit,
+            "several limits": self.several_limits,
+            "random bytes": self.random_bytes,
+        }
+
+    def make(self, category, count):
+        """`count` states of a category; the same for the same seed, whatever else was made."""
+        rng = Random(f"{self.seed} {category}")
+        maker = self.categories()[category]
+        return [maker(rng) for _ in range(count)]
+
+    # An accepted state to start from.
+    def base(self, rng, kind):
+        s = array("I", bytes(4 * STATE))
+        s[LM] = rng.randrange(4)
+        s[CHANNELS] = rng.randint(1, 2)
+        s[START] = 0
+        s[END] = rng.choice([21, 21, 21, 13, 17, 19, 1, rng.randint(1, 21)])
+        s[DOWNSAMPLE] = rng.choice(FACTORS)
+        s[LOSSES] = rng.choice([0, 0, 1, 2, 3, 4, 5, 6])
+        s[SEED] = rng.getrandbits(32)
+        s[LAG] = rng.choice([102, 103, 511, 512, 513, 719, 720, rng.randint(102, 720)])
+        s[PERIOD] = rng.choice(PERIODS)
+        s[GAIN] = rng.choice([0, 0, w.bits(rng.uniform(-1, 1)), w.bits(0.09375 * rng.randint(1, 8))])
+        s[TAPSET] = rng.randrange(3)
+        s[COARSE:DEEMPH] = w.float_words([rng.uniform(-9, 12) for _ in range(100)])
+        s[DEEMPH:LPC] = w.float_words([rng.gauss(0, 500) for _ in range(2)])
+        s[LPC:HISTORY] = w.float_words(w.stable_predictor(rng, 0.8) + w.stable_predictor(rng, 0.95))
+        s[HISTORY:] = self.sounds.part(rng, kind, 2168) + self.sounds.part(rng, kind, 2168)
+        return s
+
+    def kind(self, rng):
+        return rng.choice(["tone", "voice", "drum", "noise", "silence"])
+
+    def ordinary(self, rng, kind):
+        return self.base(rng, kind)
+
+    def near_ties(self, rng):
+        s = self.base(rng, "tone")
+        s[LOSSES] = 0
+        for c in range(2):
+            whole = rng.choice(self.sounds.tied)
+            at = rng.randrange(len(whole) - 2168 + 1)
+            s[HISTORY + 2168 * c : HISTORY + 2168 * (c + 1)] = whole[at : at + 2168]
+        return s
+
+    def swelling(self, rng):
+        s = self.base(rng, "tone")
+        s[LOSSES] = rng.choice([0, 0, 1, 3])
+        for c in range(2):
+            whole = rng.choice(self.sounds.swelling)
+            at = rng.randrange(len(whole) - 2168 + 1)
+            s[HISTORY + 2168 * c : HISTORY + 2168 * (c + 1)] = whole[at : at + 2168]
+        if rng.random() < 0.3:
+            s[LPC:HISTORY] = w.float_words(w.stable_predictor(rng, 1.05) * 2)
+        return s
+
+    def filters(self, rng):
+        s = self.base(rng, self.kind(rng))
+        s[LOSSES] = rng.randrange(5)
+        s[PERIOD] = rng.choice(PERIODS[:12] + PERIODS[-3:])
+        s[GAIN] = rng.choice(GAINS)
+        return s
+
+    def comfort_noise(self, rng):
+        s = self.base(rng, self.kind(rng))
+        if rng.random() < 0.5:
+            s[LOSSES] = rng.choice([5, 6, 7, 100])
+        else:
+            s[START] = rng.choice([17, 17, 1, 20, rng.randint(1, 20)])
+            s[END] = rng.randint(s[START] + 1, 21)
+            s[LOSSES] = rng.choice([0, 1, 4, 5])
+            s[LAG] = rng.choice([0, 101, 721, 5000, 300])
+        return s
+
+    def energy_edges(self, rng):
+        """Sums at the ends of the gain's range, near whole 256ths, and hostile."""
+        s = self.comfort_noise(rng)
+        picks = [26, 25.9999, 27, 32, 40, 128, -150, -155, -156.5, -149.5, -140, 0, 2.5625, -6.4375]
+        for i in range(COARSE, DEEMPH):
+            draw = rng.random()
+            if draw < 0.35:
+                s[i] = w.bits(rng.choice(picks) + rng.choice([0, 0, 2**-17, -(2**-17)]))
+            elif draw < 0.6:
+                s[i] = w.bits(rng.randint(-8000, 8000) / 256 + rng.choice([0, 2**-18, -(2**-18)]))
+            elif draw < 0.65:
+                s[i] = rng.choice(w.HOSTILE)
+        return s
+
+    def large_counts(self, rng):
+        s = self.base(rng, self.kind(rng))
+        s[LOSSES] = rng.choice([0xFFFFFFFE, 0xFFFFFFFD, 0x80000000, 0x7FFFFFFF, rng.getrandbits(31)])
+        return s
+
+    def overflow(self, rng):
+        """Samples so large, of turning sign or few, that energies run to infinity."""
+        s = self.base(rng, self.kind(rng))
+        s[LOSSES] = rng.choice([0, 0, 1, 4])
+        top = rng.choice([1e17, 5e17, 1.8e18, 1e19, 4e19, 1e30, 3e38])
+        every = rng.choice([1, 1, 2, 7, 300])
+        for i in range(HISTORY, STATE, every):
+            s[i] = w.bits(top * rng.uniform(0.1, 1) * (-1) ** (i // every))
+        return s
+
+    def hostile(self, rng):
+        """A few hostile words anywhere but in the settings, or one kind spread all over."""
+        s = self.base(rng, self.kind(rng))
+        if rng.random() < 0.2:
+            s[START] = rng.choice([1, 17, 20])
+            s[END] = 21
+        pick = rng.choice([w.HOSTILE, w.NANS, w.INFINITIES, w.TINY])
+        places = [GAIN, *range(COARSE, STATE)]
+        near = [*range(HISTORY + 1800, HISTORY + 2168), *range(STATE - 360, STATE)]
+        for _ in range(rng.choice([1, 2, 5, 50, 4000])):
+            s[rng.choice(near if rng.random() < 0.3 else places)] = rng.choice(pick)
+        if rng.random() < 0.1:
+            s[HISTORY:] = array("I", [rng.choice(pick)]) * 4336
+        return s
+
+    def random_words(self, rng):
+        s = self.base(rng, "noise")
+        s[COARSE:] = w.random_words(rng, STATE - COARSE)
+        s[GAIN] = rng.getrandbits(32)
+        return s
+
+    LIMITS = [
+        (LM, [3], [4, 0xFFFFFFFF]),
+        (CHANNELS, [1, 2], [0, 3, 0x80000001]),
+        (START, [20], [21, 22, 0xFFFFFFFF]),
+        (END, [21], [22, 0, 0xFFFFFFFF]),
+        (DOWNSAMPLE, FACTORS, [0, 5, 7, 8, 12, 0x80000002]),
+        (LOSSES, [0xFFFFFFFE, 4, 5], [0xFFFFFFFF]),
+        (LAG, [102, 720], [101, 721, 0, 0xFFFFFFFF, 0x80000000 + 300]),
+        (PERIOD, [15, 1022], [14, 1023, 0, 0xFFFFFFFF, 0x10000 + 20]),
+        (TAPSET, [2, 0], [3, 0xFFFFFFFF]),
+    ]
+
+    def one_limit(self, rng):
+        """One limit, one inside or one outside; of a refused state nothing may change."""
+        s = self.base(rng, self.kind(rng))
+        place, inside, outside = rng.choice(self.LIMITS)
+        s[place] = rng.choice(inside if rng.random() < 0.5 else outside)
+        if place == START and s[START] <= 20:
+            s[END] = rng.choice([21, s[START] + 1, s[START], s[START] - 1])
+        if place == LAG:
+            s[START] = rng.choice([0, 0, 0, 1])
+            s[END] = 21
+            s[LOSSES] = rng.choice([0, 1, 2, 4, 5])
+        if rng.random() < 0.3:
+            s[rng.randrange(COARSE, STATE)] = rng.choice(w.NANS)
+        return s
+
+    def several_limits(self, rng):
+        s = self.base(rng, "noise")
+        for place, inside, outside in rng.sample(self.LIMITS, rng.randint(2, 5)):
+            s[place] = rng.choice(inside + outside * 2)
+        s[rng.randrange(COARSE, STATE)] = rng.choice(w.NANS)
+        return s
+
+    def random_bytes(self, rng):
+        s = w.random_words(rng, STATE)
+        for place in range(11):
+            if rng.random() < 0.8:
+                s[place] = rng.randrange(24)
+        return s
