@@ -157,7 +157,6 @@ pub mod ref_decode {
             let start = self.start;
             let end = self.end.min(self.mode.eff_ebands);
             let nb = self.mode.nb_ebands;
-            let mut band_e = [[0f32; MAX_BANDS]; 2];
             //@ energies
             band_e
         }

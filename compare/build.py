@@ -58,12 +58,12 @@ def steps(parts):
         "lag": extract.between(lost, "let poffset = 720usize;", "} else {", what),
         "pitch": extract.block(
             lost, "for c in 0..channels {\n                let out_mem_base", what),
-        "energies": extract.block(lost, "if self.loss_count >= 5 {", what),
+        "energies": extract.between(lost, "let mut band_e = ", "let mut seed = self.rng;", what),
         "noise": noise,
         "noise_block": extract.between(noise, "let mut x = vec![0f32; frame];",
                                        "let dm = &mut self.decode_mem[c];", what),
         "deemphasis": extract.between(lost, "let c0 = self.mode.preemph[0];",
-                                      "self.loss_count += 1;", what),
+                                      "self.loss_count +=", what),
         "gain": gain.group() + "\n",
         "transform": "",
     }
@@ -111,7 +111,7 @@ def program(parts):
     return re.sub(r"^ *//@ (\w+)\n", put, text, flags=re.M)
 
 
-def compile_rust(text, name):
+def compile_rust(text, name, level=3):
     """Builds the text, unless the same text is built already; gives the program's path."""
     folder = BUILD / name
     folder.mkdir(parents=True, exist_ok=True)
@@ -119,7 +119,7 @@ def compile_rust(text, name):
     if out.is_file() and source.is_file() and source.read_text() == text:
         return out
     source.write_text(text)
-    done = subprocess.run(["rustc", "--edition", "2021", "-O", "-o", out, source],
+    done = subprocess.run(["rustc", "--edition", "2021", "-C", f"opt-level={level}", "-o", out, source],
                           capture_output=True, text=True)
     if done.returncode:
         out.unlink(missing_ok=True)

@@ -4,6 +4,8 @@
 from array import array
 from random import Random
 
+import halfway
+import kept
 import states as st
 import words as w
 
@@ -39,10 +41,13 @@ def unlike_zeros(x, y):
 class Cases:
     """`few` is the number of cases of a heavy op and family, `many` of a light one."""
 
-    def __init__(self, seed, few, many, edges=True):
-        self.seed, self.few, self.many, self.edges = seed, few, many, edges
-        self.states = st.States(seed)
+    series = {}  # by op: how many cases one turn of its series has
+
+    def __init__(self, seed, few, many, states=None):
+        self.seed, self.few, self.many = seed, few, many
+        self.states = states or st.States(1)
         self.sounds = self.states.sounds
+        self.halfway = halfway.Halfway()
 
     def program(self, name):
         """All cases of a program as (op, family, words)."""
@@ -51,6 +56,15 @@ class Cases:
                 for family, body in self.op(op):
                     assert len(body) == OPS[op][1], (op, family, len(body))
                     yield op, family, body
+                for k in kept.CASES.get(op, []):
+                    yield op, "kept", self.kept(op, k)
+
+    def kept(self, op, k):
+        """The k-th case of a further series, one of each family in turn: a hunt goes along it."""
+        if op not in self.series:
+            self.series[op] = 1 + max(0, len(list(Cases(0, 1, 0, self.states).op(op))) - 1)
+        turn, at = divmod(k, self.series[op])
+        return list(Cases(f"kept {turn}", 1, 0, self.states).op(op))[at][1]
 
     def op(self, op):
         rng = Random(f"{self.seed} {op}")
@@ -61,9 +75,8 @@ class Cases:
 
     # Float helpers.
     def floats(self, op, rng):
-        if self.edges:
-            for body in self.float_edges(op, rng):
-                yield "edges", body
+        for body in self.float_edges(op, rng):
+            yield "edges", body
         for _ in range(self.many):
             body = [rng.getrandbits(32) for _ in range(OPS[op][1])]
             if op == 104 and rng.random() < 0.7:
@@ -269,8 +282,7 @@ class Cases:
                 yield "random", [rng.getrandbits(32)]
             return
         for width in range(1, 177):
-            if self.edges or width % 5 == 1:
-                yield "noise values", self.band_case(rng, width, lambda: float(rng.randint(-2048, 2047)))
+            yield "noise values", self.band_case(rng, width, lambda: float(rng.randint(-2048, 2047)))
         for width in (1, 2, 8, 22, 176):
             yield "zeros", self.band_case(rng, width, lambda: rng.choice([0.0, -0.0]))
         for _ in range(6 * self.few):
@@ -322,8 +334,8 @@ class Cases:
                     yield "whole 256ths", [near, 0]
         for _ in range(self.many):
             yield "random", [w.bits(rng.uniform(-160, 34)), rng.choice([0, mean()])]
-        for at in CLOSE_GAINS:
-            yield "near halfway", [at, 0]
+        for at in kept.SUMS:
+            yield "last bit", [at, 0]
         for _ in range(self.many // 4):
             yield "random words", [rng.getrandbits(32), mean()]
 
@@ -366,6 +378,12 @@ class Cases:
                 x[rng.randrange(n)] = rng.choice(w.HOSTILE)
             yield "hostile words", x
         yield "silence", array("I", bytes(4 * n))
+        entries = list(self.halfway.entries(n))
+        if self.many < 10000:
+            entries = rng.sample(entries, 24 * 120 // n)
+        for entry in entries:
+            for up in (True, False):
+                yield "last bit", self.halfway.spectrum(rng, n, entry, up)
 
     # Parts of decode_lost.
     def deemphasis(self, op, rng):
@@ -383,14 +401,14 @@ class Cases:
         makers = ["tone", "voice", "drum", "noise", "silence", "near ties", "swelling", "filters",
                   "overflow", "hostile words", "random words"]
         for family in makers:
-            for s in self.states.make(family, self.few):
+            for s in self.states.make(family, self.few, self.seed):
                 head = [s[st.LM], rng.randint(0, 1), s[st.LAG], s[st.GAIN], s[st.PERIOD], s[st.TAPSET]]
                 yield family, (array("I", head) + s[st.LPC : st.LPC + 24]
                                + s[st.HISTORY : st.HISTORY + 2168])
 
     def noise_loss(self, op, rng):
         for family in ["comfort noise", "energy edges", "hostile words", "random words"]:
-            for s in self.states.make(family, self.few):
+            for s in self.states.make(family, self.few, self.seed):
                 start = s[st.START]
                 head = [s[st.LM], start, max(s[st.END], start + 1), s[st.DOWNSAMPLE], s[st.SEED]]
                 if op == 903:
@@ -402,7 +420,7 @@ class Cases:
 
     def whole(self, op, rng):
         for family in self.states.categories():
-            for s in self.states.make(family, self.few):
+            for s in self.states.make(family, self.few, self.seed):
                 need = 1920
                 if s[st.LM] < 4 and s[st.CHANNELS] < 3 and 0 < s[st.DOWNSAMPLE] < 7:
                     need = s[st.CHANNELS] * (120 << s[st.LM]) // s[st.DOWNSAMPLE]
@@ -415,12 +433,3 @@ class Cases:
                     lent = [rng.choice([need, need, need, 1920, max(need, 1) - 1]) if i < n else 0
                             for i in range(16)]
                     yield family, array("I", [n, *lent]) + s
-
-
-# Sums whose exact gain lies close to halfway between two f32, so that a last bit anywhere in the
-# gain's steps shows; found by search_gains.py.
-CLOSE_GAINS = []
-try:
-    from close_gains import CLOSE_GAINS  # noqa: F811
-except ImportError:
-    pass

@@ -2,6 +2,7 @@
 from array import array
 from random import Random
 
+import kept
 import words as w
 
 LM, CHANNELS, START, END, DOWNSAMPLE, LOSSES, SEED, LAG, PERIOD, GAIN, TAPSET = range(11)
@@ -15,7 +16,7 @@ GAINS = [0x00000000, 0x80000000, 0x7FC00000, 0xFFC12345, 0x3E400000, 0x3F400000,
 class States:
     def __init__(self, seed):
         self.seed = seed
-        self.sounds = w.Sounds(seed)
+        self.sounds = w.Sounds(1)
 
     def categories(self):
         return {
@@ -36,13 +37,22 @@ class States:
             "one limit": self.one_limit,
             "several limits": self.several_limits,
             "random bytes": self.random_bytes,
+            "kept": None,
         }
 
-    def make(self, category, count):
+    def make(self, category, count, seed=None):
         """`count` states of a category; the same for the same seed, whatever else was made."""
-        rng = Random(f"{self.seed} {category}")
+        if category == "kept":
+            return [self.kept(k) for k in kept.STATES]
+        rng = Random(f"{seed or self.seed} {category}")
         maker = self.categories()[category]
         return [maker(rng) for _ in range(count)]
+
+    def kept(self, k):
+        """The k-th state of a further series of all categories: a hunt goes along it."""
+        rng = Random(f"kept {k}")
+        makers = [maker for name, maker in self.categories().items() if name != "kept"]
+        return rng.choice(makers)(rng)
 
     # An accepted state to start from.
     def base(self, rng, kind):

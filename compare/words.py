@@ -97,7 +97,8 @@ class Sounds:
 
     def _silence(self, rng):
         out = [array("I", [0]) * self.LENGTH, array("I", [0x80000000]) * self.LENGTH]
-        out.append(self._make(lambda t: rng.gauss(0, 1e-6)))
+        for level in (1e-6, 1e-21, 1e-24):
+            out.append(self._make(lambda t: rng.gauss(0, level)))
         out.append(array("I", [rng.randrange(1, 1000) for _ in range(self.LENGTH)]))
         return out
 
