@@ -1,6 +1,7 @@
 """Cases of each op by family, seeded and repeatable: (op, family, words).
 
 `OPS` gives each op's program and its words in and out."""
+import math
 from array import array
 from random import Random
 
@@ -212,11 +213,10 @@ class Cases:
             lags = [rng.uniform(-1, 1) / (1 + k) for k in range(count)]
             lags[0] = rng.choice([1, 1, 2, 0.5])
             yield "random walk", w.float_words(lags)
-        for _ in range(self.few * 2):
-            # Falls to a thousandth at once or nearly: the early stop's own edge.
-            lags = [1.0] + [(-1) ** k * (1 - rng.choice([0.0004, 0.0005, 0.00051, 0.001])) ** k
-                            for k in range(1, count)]
-            yield "early stop", w.float_words(lags)
+        for stop in kept.STOPS:
+            yield "early stop", array("I", stop + [0] * (count - 5))
+        for _ in range(self.few * 5):
+            yield "early stop", w.float_words(self.at_the_stop(rng, count))
         for _ in range(self.few * 2):
             lags = array("I", [rng.choice(w.HOSTILE) if rng.random() < 0.3 else
                                w.bits(rng.gauss(0, 1)) for _ in range(count)])
@@ -224,6 +224,18 @@ class Cases:
             yield "hostile words", lags
         for _ in range(self.few * 2):
             yield "random words", w.random_words(rng, count)
+
+    def at_the_stop(self, rng, count):
+        """Correlations whose error after two steps is a thousandth of the first, as nearly as f32
+        can tell, or a little more or less."""
+        first = rng.uniform(1, 2) * 2.0 ** rng.randint(-8, 30)
+        r1 = rng.uniform(0.98, 0.99) * rng.choice([1, -1])
+        error = first * (1 - r1 * r1)
+        share = 0.001 * (1 + rng.choice([1e-4, 1e-2]) * rng.uniform(-1, 1))
+        r2 = math.sqrt(1 - share / (1 - r1 * r1)) * rng.choice([1, -1])
+        lags = [first, -r1 * first]
+        lags.append(-r2 * error - r1 * lags[1])
+        return lags + [rng.uniform(-0.5, 0.5) * first for _ in range(count - 3)]
 
     def pitch(self, op, rng):
         if op in (303, 304):
@@ -290,12 +302,26 @@ class Cases:
             size = 10 ** rng.uniform(-46, 38)
             yield "any size", self.band_case(rng, width, lambda: rng.uniform(-1, 1) * size)
         for _ in range(4 * self.few):
+            yield "order", self.order_case(rng)
+        for _ in range(4 * self.few):
             width = rng.randint(1, 176)
             rest = array("I", bytes(4 * (176 - width)))
             some = array("I", [rng.choice(w.HOSTILE) if rng.random() < 0.1 else
                                w.bits(rng.gauss(0, 9)) for _ in range(width)])
             yield "hostile words", array("I", [width]) + some + rest
             yield "random words", array("I", [width]) + w.random_words(rng, width) + rest
+
+    def order_case(self, rng):
+        """Small values ahead of one large, the sum of squares just below a tie of f32: summed the
+        other way round each small one is lost, and the tie isn't reached."""
+        large = rng.randrange(12_000_000, 2**24)
+        short = (2**23 - large * large) % 2**24
+        others = []
+        while short > 2:
+            others.append(math.isqrt(short))
+            short -= others[-1] ** 2
+        values = [0.1249] * (175 - len(others)) + others[::-1] + [large]
+        return array("I", [176]) + w.float_words(values)
 
     def band_case(self, rng, width, draw):
         values = w.float_words([draw() for _ in range(width)])
@@ -398,7 +424,7 @@ class Cases:
             yield family, head + x[:n] + rest + second
 
     def pitch_loss(self, op, rng):
-        makers = ["tone", "voice", "drum", "noise", "silence", "near ties", "swelling", "filters",
+        makers = ["tone", "voice", "drum", "noise", "hiss", "silence", "near ties", "swelling", "filters",
                   "overflow", "hostile words", "random words"]
         for family in makers:
             for s in self.states.make(family, self.few, self.seed):

@@ -24,6 +24,7 @@ class States:
             "voice": lambda r: self.ordinary(r, "voice"),
             "drum": lambda r: self.ordinary(r, "drum"),
             "noise": lambda r: self.ordinary(r, "noise"),
+            "hiss": lambda r: self.ordinary(r, "hiss"),
             "silence": lambda r: self.ordinary(r, "silence"),
             "near ties": self.near_ties,
             "swelling": self.swelling,
@@ -75,7 +76,7 @@ class States:
         return s
 
     def kind(self, rng):
-        return rng.choice(["tone", "voice", "drum", "noise", "silence"])
+        return rng.choice(list(self.sounds.kinds))
 
     def ordinary(self, rng, kind):
         return self.base(rng, kind)

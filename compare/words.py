@@ -57,6 +57,7 @@ class Sounds:
             "voice": [self._voice(rng) for _ in range(12)],
             "drum": [self._drum(rng) for _ in range(10)],
             "noise": [self._noise(rng) for _ in range(8)],
+            "hiss": [self._hiss(rng) for _ in range(10)],
             "silence": self._silence(rng),
         }
         self.tied = [self._tied(rng) for _ in range(24)]
@@ -94,6 +95,15 @@ class Sounds:
     def _noise(self, rng):
         level = 10 ** rng.uniform(-3, 4.5)
         return self._make(lambda t: rng.gauss(0, level))
+
+    def _hiss(self, rng):
+        """Noise through a high resonance: neighbouring lags of unlike sign."""
+        step, fall, level = rng.uniform(0.6, 1.57), rng.uniform(0.8, 0.99), 10 ** rng.uniform(0, 4)
+        a, b = 2 * fall * math.cos(step), -fall * fall
+        out = [0.0, 0.0]
+        for _ in range(self.LENGTH):
+            out.append(a * out[-1] + b * out[-2] + rng.gauss(0, level))
+        return float_words(out[2:])
 
     def _silence(self, rng):
         out = [array("I", [0]) * self.LENGTH, array("I", [0x80000000]) * self.LENGTH]
