@@ -28,7 +28,7 @@ OPS = {
     701: ("deemphasis", 1925, 1922),
     801: ("pitch_loss", 2198, 2192),
     901: ("noise_loss", 30, 1081), 902: ("noise_loss", 2198, 2169), 903: ("noise_loss", 54, 50),
-    1001: ("ref_decode", 4499, 6500), 1002: ("ref_decode", 4514, 4561),
+    1001: ("ref_decode", 4499, 6500), 1002: ("ref_decode", 4514, 4561), 1003: ("ref_decode", 13, 6),
 }
 PROGRAMS = list(dict.fromkeys(program for program, _, _ in OPS.values()))
 MEANS = [6.4375, 6.25, 5.75, 5.3125, 5.0625, 4.8125, 4.5, 4.375, 4.875, 4.6875, 4.5625, 4.4375,
@@ -360,7 +360,7 @@ class Cases:
                     yield "whole 256ths", [near, 0]
         for _ in range(self.many):
             yield "random", [w.bits(rng.uniform(-160, 34)), rng.choice([0, mean()])]
-        for at in kept.SUMS:
+        for at in kept.SUMS + kept.TRUNCATED:
             yield "last bit", [at, 0]
         for _ in range(self.many // 4):
             yield "random words", [rng.getrandbits(32), mean()]
@@ -387,11 +387,11 @@ class Cases:
             yield "noise", w.float_words([rng.gauss(0, level) for _ in range(n)])
         for _ in range(few):
             x = [0.0] * n
-            x[rng.randrange(n)] = rng.choice([1, -1, 1000, 1e38])
+            x[rng.randrange(n)] = rng.choice([1, -1, 1000, 3.4e38, 1e-38, 1e-44])
             yield "one bin", w.float_words(x)
         for _ in range(few):
             x = [0.0] * n
-            size = 10 ** rng.uniform(-3, 6)
+            size = rng.choice([3e38, 1e-45, 1e-38, 10 ** rng.uniform(-3, 6)])
             for _ in range(rng.choice([2, 2, 3])):
                 x[rng.randrange(n)] = rng.choice([size, -size])
             yield "like bins", w.float_words(x)
@@ -404,6 +404,8 @@ class Cases:
                 x[rng.randrange(n)] = rng.choice(w.HOSTILE)
             yield "hostile words", x
         yield "silence", array("I", bytes(4 * n))
+        for _ in range(few):
+            yield "cancelling", w.float_words(self.halfway.cancelling(rng, n))
         entries = list(self.halfway.entries(n))
         if self.many < 10000:
             entries = rng.sample(entries, 24 * 120 // n)
@@ -428,9 +430,13 @@ class Cases:
                   "overflow", "hostile words", "random words"]
         for family in makers:
             for s in self.states.make(family, self.few, self.seed):
-                head = [s[st.LM], rng.randint(0, 1), s[st.LAG], s[st.GAIN], s[st.PERIOD], s[st.TAPSET]]
-                yield family, (array("I", head) + s[st.LPC : st.LPC + 24]
-                               + s[st.HISTORY : st.HISTORY + 2168])
+                yield family, self.pitch_case(s, rng.randint(0, 1))
+        for s in self.states.guards():
+            yield "energy guard", self.pitch_case(s, 0)
+
+    def pitch_case(self, s, first):
+        head = [s[st.LM], first, s[st.LAG], s[st.GAIN], s[st.PERIOD], s[st.TAPSET]]
+        return array("I", head) + s[st.LPC : st.LPC + 24] + s[st.HISTORY : st.HISTORY + 2168]
 
     def noise_loss(self, op, rng):
         for family in ["comfort noise", "energy edges", "hostile words", "random words"]:
@@ -445,6 +451,9 @@ class Cases:
                 yield family, body + (s[st.HISTORY : st.HISTORY + 2168] if op == 902 else array("I"))
 
     def whole(self, op, rng):
+        if op == 1003:
+            yield from self.silent(rng)
+            return
         for family in self.states.categories():
             for s in self.states.make(family, self.few, self.seed):
                 need = 1920
@@ -459,3 +468,12 @@ class Cases:
                     lent = [rng.choice([need, need, need, 1920, max(need, 1) - 1]) if i < n else 0
                             for i in range(16)]
                     yield family, array("I", [n, *lent]) + s
+
+    def silent(self, rng):
+        """Heads alone: every limit and every pair of broken ones, with buffers of all lengths."""
+        for head in self.states.heads():
+            need = head[st.CHANNELS] * (120 << min(head[st.LM], 3)) // max(head[st.DOWNSAMPLE], 1)
+            need = min(need, 1920)
+            lent = [need, need, 2000, need + 1, max(need, 1) - 1, 0]
+            yield "limits", [rng.choice(lent), rng.choice([4336] * 5 + [4335, 4337]), *head]
+            yield "limits", [need, 4336, *head]

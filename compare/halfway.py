@@ -61,3 +61,19 @@ class Halfway:
                 out[k], out[k2] = x, y
                 return w.float_words(out)
         return None
+
+    def cancelling(self, rng, n):
+        """Two large terms that cancel at one output, and a small one behind them: summed the other
+        way round the small one is rounded at their size."""
+        t = rng.choice([t for t in range(2 * n) if (2 * t + 1 + n) % 15 == 0])
+        first = rng.randrange(n // 4)
+        entry, sign = fold((2 * t + 1 + n) * (2 * first + 1) * (960 // n))
+        for second in range(first + 1, n - 1):
+            other, turned = fold((2 * t + 1 + n) * (2 * second + 1) * (960 // n))
+            if other == entry:
+                break
+        out = [0.0] * n
+        out[first] = rng.choice([1e11, 1e12, 1e13])
+        out[second] = -out[first] * sign * turned
+        out[rng.randrange(second + 1, n)] = rng.uniform(1, 2)
+        return out

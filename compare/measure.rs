@@ -37,32 +37,48 @@ pub mod measure {
         println!("largest difference of subnormal gains {worst_small:e}");
     }
 
-    /// Spectra of the noise path's own kind: noise in bands, gains from faint to loud.
+    /// Three kinds of spectra: noise with gains from faint to loud, every single bin, and pairs of
+    /// like bins, whose sums can cancel.
     pub fn transforms() {
         for n in [120, 240, 480, 960] {
-            let rounds = 4_000_000 / (n * n) * 20 + 20;
-            let (mut cached, mut naive) = (Widest::default(), Widest::default());
+            let rounds = 2_000_000 / (n * n) * 20 + 20;
             let mut seed = 1u32;
-            for round in 0..rounds {
-                let spectrum: Vec<f32> = (0..n)
-                    .map(|k| {
-                        seed = crate::band_quant::celt_lcg_rand(seed);
-                        let tilt = ((round + k) % 37) as f32 - 18.0;
-                        (seed as i32 >> 20) as f32 * tilt.exp2()
-                    })
-                    .collect();
-                let mut all = [vec![0f32; 2 * n], vec![0f32; 2 * n], vec![0f32; 2 * n]];
-                assert!(crate::standin::cosine_sum(&spectrum, &mut all[0]));
-                assert!(crate::mdct::imdct_cached_f32(&spectrum, &mut all[1]));
-                if round % 20 == 0 {
-                    assert!(crate::mdct::imdct_naive_f32(&spectrum, &mut all[2]));
-                    naive.add(&all[0], &all[2]);
-                }
-                cached.add(&all[0], &all[1]);
-            }
-            println!("N {n}, {rounds} spectra, imdct_cached_f32: {cached}");
-            println!("N {n}, {} spectra, imdct_naive_f32: {naive}", rounds.div_ceil(20));
+            let noise = (0..rounds).map(|round| {
+                let tilt = |k: usize| (((round + k) % 37) as f32 - 18.0).exp2();
+                (0..n).map(|k| draw(&mut seed) * tilt(k)).collect()
+            });
+            let noise: Vec<Vec<f32>> = noise.collect();
+            let single = |k: usize| (0..n).map(|i| if i == k { 1.0 } else { 0.0 }).collect();
+            let pair = |k: usize| {
+                let other = (7 * k + 1) % n;
+                (0..n).map(|i| if i == k || i == other { 1.0 } else { 0.0 }).collect()
+            };
+            widest("noise", n, &noise);
+            widest("single bins", n, &(0..n).map(single).collect::<Vec<_>>());
+            widest("like pairs", n, &(0..n).map(pair).collect::<Vec<_>>());
         }
+    }
+
+    fn draw(seed: &mut u32) -> f32 {
+        *seed = crate::band_quant::celt_lcg_rand(*seed);
+        (*seed as i32 >> 20) as f32
+    }
+
+    fn widest(kind: &str, n: usize, spectra: &[Vec<f32>]) {
+        let (mut cached, mut naive, mut tried) = (Widest::default(), Widest::default(), 0);
+        let mut all = [vec![0f32; 2 * n], vec![0f32; 2 * n], vec![0f32; 2 * n]];
+        for (round, spectrum) in spectra.iter().enumerate() {
+            assert!(crate::standin::cosine_sum(spectrum, &mut all[0]));
+            assert!(crate::mdct::imdct_cached_f32(spectrum, &mut all[1]));
+            cached.add(&all[0], &all[1]);
+            if round % 20 == 0 {
+                assert!(crate::mdct::imdct_naive_f32(spectrum, &mut all[2]));
+                naive.add(&all[0], &all[2]);
+                tried += 1;
+            }
+        }
+        println!("N {n}, {kind}, {} spectra, imdct_cached_f32: {cached}", spectra.len());
+        println!("N {n}, {kind}, {tried} spectra, imdct_naive_f32: {naive}");
     }
 
     /// The widest difference seen: in steps, and against the block's largest value.
@@ -71,6 +87,7 @@ pub mod measure {
         values: u64,
         unlike: u64,
         steps: u32,
+        turned: u64,
         share: f64,
     }
 
@@ -83,6 +100,8 @@ pub mod measure {
                     self.unlike += 1;
                     if a.is_sign_negative() == b.is_sign_negative() {
                         self.steps = self.steps.max(steps(a, b));
+                    } else {
+                        self.turned += 1;
                     }
                     self.share = self.share.max(f64::from((a - b).abs()) / f64::from(top));
                 }
@@ -94,8 +113,8 @@ pub mod measure {
         fn fmt(&self, f: &mut std::fmt::Formatter<'_>) -> std::fmt::Result {
             write!(
                 f,
-                "{} of {} values unlike, at most {} steps, at most {:e} of the block's largest",
-                self.unlike, self.values, self.steps, self.share
+                "{} of {} values unlike, at most {} steps ({} of unlike sign), at most {:e} of the block's largest",
+                self.unlike, self.values, self.steps, self.turned, self.share
             )
         }
     }

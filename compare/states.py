@@ -38,13 +38,16 @@ class States:
             "one limit": self.one_limit,
             "several limits": self.several_limits,
             "random bytes": self.random_bytes,
+            "limits": None,
             "kept": None,
         }
 
     def make(self, category, count, seed=None):
         """`count` states of a category; the same for the same seed, whatever else was made."""
         if category == "kept":
-            return [self.kept(k) for k in kept.STATES]
+            return [self.kept(k) for k in kept.STATES] + self.guards() + self.floors()
+        if category == "limits":
+            return self.limits() if count > 4 else self.limits()[::40]
         rng = Random(f"{seed or self.seed} {category}")
         maker = self.categories()[category]
         return [maker(rng) for _ in range(count)]
@@ -52,8 +55,28 @@ class States:
     def kept(self, k):
         """The k-th state of a further series of all categories: a hunt goes along it."""
         rng = Random(f"kept {k}")
-        makers = [maker for name, maker in self.categories().items() if name != "kept"]
+        makers = [maker for name, maker in self.categories().items() if maker]
         return rng.choice(makers)(rng)
+
+    def guards(self):
+        """A repeated loss on one channel with one predictor coefficient, at the energy guard's edge."""
+        out = []
+        for k, word in kept.GUARDS:
+            s = self.base(Random(f"guard {k}"), "voice")
+            s[LM], s[CHANNELS], s[LOSSES], s[GAIN], s[PERIOD], s[TAPSET] = 0, 1, 1, 0, 15, 0
+            s[LPC : LPC + 24] = array("I", [word] + [0] * 23)
+            out.append(s)
+        return out
+
+    def floors(self):
+        """Noise losses with one energy at which floor and truncation part."""
+        out = []
+        for k, (band, word) in enumerate(kept.ENERGIES):
+            s = self.base(Random(f"floor {k}"), "silence")
+            s[LM], s[START], s[END], s[DOWNSAMPLE], s[LOSSES] = k % 4, 0, 21, 1, 5
+            s[BACKGROUND + band] = word
+            out.append(s)
+        return out
 
     # An accepted state to start from.
     def base(self, rng, kind):
@@ -120,8 +143,11 @@ class States:
         return s
 
     def energy_edges(self, rng):
-        """Sums at the ends of the gain's range, near whole 256ths, and hostile."""
+        """Sums at the ends of the gain's range, near whole 256ths, hostile, or all of them faint."""
         s = self.comfort_noise(rng)
+        if rng.random() < 0.25:
+            s[COARSE:DEEMPH] = w.float_words([rng.uniform(-157, -130) for _ in range(100)])
+            return s
         picks = [26, 25.9999, 27, 32, 40, 128, -150, -155, -156.5, -149.5, -140, 0, 2.5625, -6.4375]
         for i in range(COARSE, DEEMPH):
             draw = rng.random()
@@ -180,6 +206,58 @@ class States:
         (PERIOD, [15, 1022], [14, 1023, 0, 0xFFFFFFFF, 0x10000 + 20]),
         (TAPSET, [2, 0], [3, 0xFFFFFFFF]),
     ]
+
+    def heads(self):
+        """Accepted heads, each limit one inside and one outside, every pair of broken limits."""
+        usual = [0, 1, 0, 21, 1, 0, 7, 300, 15, 0, 0]
+        out = []
+
+        def head(**changes):
+            h = list(usual)
+            for place, value in changes.items():
+                h[globals()[place]] = value
+            out.append(h)
+
+        for lm in range(4):
+            for channels in (1, 2):
+                for downsample in FACTORS:
+                    head(LM=lm, CHANNELS=channels, DOWNSAMPLE=downsample, LOSSES=lm + channels)
+        for lag in (0, 101, 102, 103, 719, 720, 721, 0xFFFFFFFF):
+            for losses in (0, 1, 2, 3, 4, 5, 6, 0xFFFFFFFE):
+                for start in (0, 1):
+                    head(LAG=lag, LOSSES=losses, START=start)
+        for start in range(19, 23):
+            for end in range(18, 24):
+                head(START=start, END=end)
+        for end in (0, 1, 2, 20, 21, 22, 0xFFFFFFFF):
+            for start in (0, 1, 2):
+                head(START=start, END=end)
+        for period in (0, 13, 14, 15, 16, 121, 122, 1021, 1022, 1023, 1024, 0xFFFFFFFF):
+            for gain in (0, 0x3F000000, 0x7FC00000):
+                head(PERIOD=period, TAPSET=period % 3, GAIN=gain)
+        for place, inside, outside in self.LIMITS:
+            for value in inside + outside:
+                h = list(usual)
+                h[place] = value
+                out.append(h)
+        for n, (one, _, wrong) in enumerate(self.LIMITS):
+            for other, _, bad in self.LIMITS[n + 1 :]:
+                h = list(usual)
+                h[LOSSES] = 2
+                h[one], h[other] = wrong[0], bad[0]
+                out.append(h)
+        return out
+
+    def limits(self):
+        """Whole states with those heads, a NaN of its own in each."""
+        out = []
+        for n, head in enumerate(self.heads()):
+            rng = Random(f"limits {n}")
+            s = self.base(rng, "tone")
+            s[:11] = array("I", head)
+            s[rng.randrange(COARSE, STATE)] = rng.choice(w.NANS)
+            out.append(s)
+        return out
 
     def one_limit(self, rng):
         """One limit, one inside or one outside; of a refused state nothing may change."""

@@ -67,6 +67,7 @@ fn width(op: u32) -> Option<usize> {
         903 => 54,
         1001 => 4499,
         1002 => 4514,
+        1003 => 13,
         _ => return None,
     })
 }
@@ -141,6 +142,7 @@ fn answer(op: u32, w: &[u32]) -> Vec<u32> {
         901..=903 => noise_loss(op, w),
         1001 => one_call(w),
         1002 => run_of_calls(w),
+        1003 => silent_call(w),
         _ => unreachable!(),
     }
 }
@@ -335,6 +337,12 @@ fn one_call(w: &[u32]) -> Vec<u32> {
     out.extend(filled(words(&pcm), 2000));
     out.extend(s);
     out
+}
+
+fn silent_call(w: &[u32]) -> Vec<u32> {
+    let mut s = filled(w[2..].to_vec(), STATE);
+    let head = conceal(&mut s, w[1] as usize, &mut vec![1f32; w[0] as usize]);
+    [&head[..], &s[5..8]].concat()
 }
 
 fn run_of_calls(w: &[u32]) -> Vec<u32> {

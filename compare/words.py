@@ -125,7 +125,7 @@ class Sounds:
 
     def _swelling(self, rng):
         """Grows or falls from cycle to cycle."""
-        period, rate = rng.randint(90, 740), rng.choice([0.995, 0.999, 1.0005, 1.001, 1.004])
+        period, rate = rng.randint(90, 740), rng.choice([0.97, 0.985, 0.995, 0.999, 1.0005, 1.001, 1.004])
         cycle = [rng.gauss(0, 1) for _ in range(period)]
         return self._make(lambda t: cycle[t % period] * rate ** (t - 2048) * 100)
 
