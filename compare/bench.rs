@@ -5,15 +5,8 @@ use std::time::Instant;
 
 #[allow(dead_code)]
 extern "C" {
-    fn leaf_celt_autocorr(x: *const f32, n: usize, ac: *mut f32, lags: usize) -> bool;
-    fn leaf_celt_autocorr_windowed(
-        x: *const f32,
-        n: usize,
-        window: *const f32,
-        overlap: usize,
-        ac: *mut f32,
-        lags: usize,
-    ) -> bool;
+    fn leaf_celt_autocorr(x: *const f32, ac: *mut f32);
+    fn leaf_celt_autocorr_windowed(x: *const f32, window: *const f32, ac: *mut f32);
     fn leaf_celt_lpc(lpc: *mut f32, p: usize, ac: *const f32, n: usize) -> bool;
     fn leaf_celt_fir(
         buf: *mut f32,
@@ -23,16 +16,9 @@ extern "C" {
         mem: *const f32,
         reach: usize,
     ) -> bool;
-    fn leaf_celt_iir(
-        buf: *mut f32,
-        n: usize,
-        den: *const f32,
-        order: usize,
-        mem: *const f32,
-        reach: usize,
-    ) -> bool;
+    fn leaf_celt_iir(buf: *mut f32, n: usize, den: *const f32, mem: *const f32) -> bool;
     fn leaf_pitch_downsample(x: *const f32, n: usize, x_lp: *mut f32, half: usize) -> bool;
-    fn leaf_pitch_downsample_stereo(
+    fn leaf_pitch_downsample_pair(
         x: *const f32,
         n: usize,
         y: *const f32,
@@ -40,8 +26,8 @@ extern "C" {
         x_lp: *mut f32,
         half: usize,
     ) -> bool;
-    fn leaf_pitch_search(y: *const f32, n: usize) -> usize;
-    fn leaf_renormalise_vector(x: *mut f32, n: usize) -> bool;
+    fn leaf_pitch_search(y: *const f32) -> usize;
+    fn leaf_renormalise_vector(x: *mut f32, n: usize);
     fn leaf_imdct(spectrum: *const f32, n: usize, out: *mut f32, m: usize) -> bool;
 }
 
@@ -104,7 +90,7 @@ fn main() {
     row(
         "celt_autocorr, 5 lags",
         least(rounds, &x[..1024], 5, |x, ac| unsafe {
-            leaf_celt_autocorr(x.as_ptr(), x.len(), ac.as_mut_ptr(), ac.len());
+            leaf_celt_autocorr(x.as_ptr(), ac.as_mut_ptr());
         }),
         least(rounds, &x[..1024], 5, |x, ac| plc::celt_autocorr(x, ac, None, 0)),
     );
@@ -112,8 +98,7 @@ fn main() {
     row(
         "celt_autocorr windowed, 25 lags",
         least(rounds, &x[..1024], 25, |x, ac| unsafe {
-            let (w, n) = (window.as_ptr(), window.len());
-            leaf_celt_autocorr_windowed(x.as_ptr(), x.len(), w, n, ac.as_mut_ptr(), ac.len());
+            leaf_celt_autocorr_windowed(x.as_ptr(), window.as_ptr(), ac.as_mut_ptr());
         }),
         least(rounds, &x[..1024], 25, |x, ac| plc::celt_autocorr(x, ac, Some(&window), 120)),
     );
@@ -145,7 +130,7 @@ fn main() {
     row(
         "celt_iir_inplace, order 24, 1,200 samples",
         least(rounds, &x[..1200], 1200, |x, out| unsafe {
-            leaf_celt_iir(x.as_mut_ptr(), x.len(), lpc.as_ptr(), 24, mem.as_ptr(), 24);
+            leaf_celt_iir(x.as_mut_ptr(), x.len(), lpc.as_ptr(), mem.as_ptr());
             out.copy_from_slice(x);
         }),
         least(rounds, &x[..1200], 1200, |x, out| {
@@ -161,12 +146,12 @@ fn main() {
         }),
         least(rounds, &x[..2048], 1024, |x, out| plc::pitch_downsample(&[x], out)),
     );
-    #[cfg(leaf_pitch_downsample_stereo)]
+    #[cfg(leaf_pitch_downsample_pair)]
     row(
         "pitch_downsample, two channels",
         least(rounds, &x, 1024, |x, out| unsafe {
             let (a, b) = x.split_at(2048);
-            leaf_pitch_downsample_stereo(a.as_ptr(), 2048, b.as_ptr(), 2048, out.as_mut_ptr(), out.len());
+            leaf_pitch_downsample_pair(a.as_ptr(), 2048, b.as_ptr(), 2048, out.as_mut_ptr(), out.len());
         }),
         least(rounds, &x, 1024, |x, out| plc::pitch_downsample(&[&x[..2048], &x[2048..]], out)),
     );
@@ -176,7 +161,7 @@ fn main() {
         plc::pitch_downsample(&[&x[..2048]], &mut y);
         row(
             "pitch_search",
-            least(rounds, &y, 1, |y, out| out[0] = unsafe { leaf_pitch_search(y.as_ptr(), y.len()) } as f32),
+            least(rounds, &y, 1, |y, out| out[0] = unsafe { leaf_pitch_search(y.as_ptr()) } as f32),
             least(rounds, &y, 1, |y, out| out[0] = plc::pitch_search(&y[360..], y, 1328, 620) as f32),
         );
     }
