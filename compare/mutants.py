@@ -297,7 +297,9 @@ def told_apart(wrong, todo, records, right):
 
 def tool(parts, name):
     """The program with one slip in."""
-    text = build.program(edit(parts, MUTANTS[name]))
+    own = ("around.rs", "standin.rs", "tool.rs")
+    text = build.program(edit(parts, MUTANTS[name]), own)
+    text += "fn further(_: &str) -> std::io::Result<()> {\n    Ok(())\n}\n"
     return build.compile_rust(text, "mutants/" + re.sub(r"\W+", "_", name), level=1)
 
 
