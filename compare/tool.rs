@@ -261,7 +261,7 @@ fn refusal(s: &[u32], history: usize) -> u32 {
     }
 }
 
-fn decoder(s: &[u32]) -> CeltRefDecoder {
+pub fn decoder(s: &[u32]) -> CeltRefDecoder {
     let mut d = CeltRefDecoder::silent(s[0], s[1] as usize);
     d.start = s[2] as usize;
     d.end = s[3] as usize;
