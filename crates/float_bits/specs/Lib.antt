@@ -3,4 +3,6 @@ pub mod Extremes
 pub mod Formats
 pub mod Root
 pub mod Words
+pub mod Noise
 pub mod Steps
+pub mod Marked

@@ -1,7 +1,7 @@
 -- What the private steps of `formats` and `root` hand to each other. Nothing of it stands in a public contract.
-use Prim.Native.Nat.{ℕ, zero, suc, _+_, _*_, _/_, _%_, _^_, _≤_, _<_}
+use Prim.Native.Nat.{ℕ, zero, suc, _+_, _*_, _^_, _≤_, _<_}
 use mathlib.Core.Path.{_≡_}
-use mathlib.Core.Bool.{Bool, true, false, cond}
+use mathlib.Core.Bool.{Bool, cond}
 use lib.Ieee as Ieee
 use lib.Ieee.{binary32}
 

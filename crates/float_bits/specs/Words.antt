@@ -1,5 +1,5 @@
 -- 32-bit words: as noise values, and multiplied.
-use Prim.Native.Nat.{ℕ, _*_, _-_, _%_, _/_, _^_}
+use Prim.Native.Nat.{ℕ, _*_, _-_, _%_, _^_}
 use mathlib.Core.Bool.{cond}
 use lib.IntN.{ℤ, pos, negℤ}
 use lib.Dec.{ltb}

@@ -1,7 +1,7 @@
 // 32-bit words: as floats, as noise values, and multiplied.
 ghost use mathlib.Core.Path.{_≡_};
 ghost use lib.Ieee.{binary32, ofBits, toBits};
-ghost use Rattle.float_bits.specs.Words.{noiseValue, wrappingMul};
+ghost use Rattle.float_bits.specs.Words.{signed, noiseValue, wrappingMul};
 
 // The f32 whose bits are w; every NaN's word is NaN.
 pub fn f32_from_word(w: u32) -> f32
@@ -25,18 +25,20 @@ pub fn f32_to_word(x: f32) -> u32
 }
 
 // A 32-bit word read as a signed number.
-fn signed(w: u32) -> i32 {
+fn signed_word(w: u32) -> i32
+    ensures { λ r. ⌜ r ≡ signed w ⌝ }
+{
     if w < 0x8000_0000 {
         return w as i32;
     }
-    -((0xffff_ffff - w) as i32) - 1
+    -1 - (0xffff_ffff - w) as i32
 }
 
 // The word read as signed and shifted right by 20, from -2,048 to 2,047.
 pub fn noise_value(w: u32) -> f32
     ensures { λ r. ⌜ r ≡ noiseValue w ⌝ }
 {
-    (signed(w) >> 20) as f32
+    (signed_word(w) >> 20) as f32
 }
 
 // The low 32 bits of the product.
