@@ -123,7 +123,8 @@ fn answer() -> bool {
     if !op.whole {
         return false;
     }
-    match op.value {
+    let kind = op.value;
+    match kind {
         201 => answer_autocorr(),
         202 => answer_windowed(),
         203 => answer_lpc_24(),

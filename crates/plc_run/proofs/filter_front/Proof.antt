@@ -5,6 +5,7 @@ use Prim.Native.Nat.{ℕ, zero, suc, _+_, _≤_, _<_, _-_}
 use native.Mathlib.Omega.{arith}
 use native.Mathlib.Numerals.{add-one}
 use lib.ListN.{length, getD, set, take, drop, length-set}
+use lib.Seq.{length-take-le}
 use borrow.Author.Needs.{needs}
 use Rattle.plc_run.proofs.filter_front.Statement.{statement}
 use Rattle.plc_run.proofs.filter_front.Tie as tie
@@ -22,7 +23,9 @@ slice-relend-prefix-celt-iir-inplace c = search needs
 
 -- src/main.rt:94:27
 slice-aggregate-celt-iir-inplace : tie.Need-slice-aggregate-celt-iir-inplace
-slice-aggregate-celt-iir-inplace c = search needs
+slice-aggregate-celt-iir-inplace c =
+    let a = c .before .before .before .args in
+    sym (length-take-le (a .n) (a .x .now) (search needs))
 
 -- src/main.rt:94:5
 celt-iir-inplace-requires : tie.Need-celt-iir-inplace-requires

@@ -14,10 +14,10 @@ use Rattle.float_bits.proofs.words.f32_from_word.Reads as f32-from-word-reads
 use Rattle.plc_run.proofs.words.read_word.Reads as read-word-reads
 
 abbrev Inv-loop : tie.InvT-loop
-Inv-loop x₀ n i₀ x i = ?
+Inv-loop x₀ n i₀ x i = (i ≤ n) × (length x ≡ length x₀)
 
 abbrev μ-loop : tie.MeasureT-loop
-μ-loop x₀ n i₀ x i = ?
+μ-loop x₀ n i₀ x i = n - i
 
 -- src/words.rt:47:5
 loop-holds : tie.Need-loop-holds Inv-loop μ-loop
@@ -57,7 +57,7 @@ loop-less c = search needs
 
 -- src/words.rt:47:5
 loop-again : tie.Need-loop-again Inv-loop μ-loop
-loop-again c = search needs
+loop-again c = (search needs, simp length-set (search needs))
 
 -- src/words.rt:45:1
 same-length-2 : tie.Need-same-length-2 Inv-loop μ-loop

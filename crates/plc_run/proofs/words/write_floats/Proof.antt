@@ -14,10 +14,10 @@ use Rattle.float_bits.proofs.words.f32_to_word.Reads as f32-to-word-reads
 use Rattle.plc_run.proofs.words.write_word.Reads as write-word-reads
 
 abbrev Inv-loop : tie.InvT-loop
-Inv-loop x n i₀ i = ?
+Inv-loop x n i₀ i = i ≤ n
 
 abbrev μ-loop : tie.MeasureT-loop
-μ-loop x n i₀ i = ?
+μ-loop x n i₀ i = n - i
 
 -- src/words.rt:59:5
 loop-holds : tie.Need-loop-holds Inv-loop μ-loop
