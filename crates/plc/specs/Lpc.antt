@@ -7,7 +7,7 @@ use native.Mathlib.Omega.{arith}
 use lib.ListN.{length, getD, set, replicate, length-set, length-replicate}
 use lib.Ieee.{Float, nan, binary32, add, sub, mul, div, neg, lt, eq}
 use Rattle.loops.specs.Fold.{foldTo, fold-keeps, fold-still}
-use Rattle.loops.specs.Pick.{pick-true, pick-false}
+use Rattle.loops.specs.Pick.{pick-true}
 use Rattle.loops.specs.Sum.{sumTo}
 use Rattle.plc.specs.Const.{zero32, small32}
 
