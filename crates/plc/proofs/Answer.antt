@@ -1,5 +1,5 @@
 -- what a function that may refuse answers
-use mathlib.Core.Path.{_≡_, refl, sym, _∙_}
+use mathlib.Core.Path.{_≡_, sym, _∙_}
 use mathlib.Core.Bool.{Bool, true, false, cond}
 use Rattle.loops.specs.Pick.{pick-true, pick-false}
 

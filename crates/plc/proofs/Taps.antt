@@ -7,13 +7,12 @@ use native.Mathlib.Omega.{arith}
 use lib.Dec.{eqb, ltb}
 use lib.ListN.{length, getD, set}
 use lib.Seq.{getD-set-same, getD-set-other}
-use lib.Ieee.{Float, nan, binary32, add, sub, mul}
-use borrow.Author.Tests.{eqb-true, eqb-false, ltb-true, ltb-false, lt-ltb, le-ltb}
-use Rattle.loops.specs.Pick.{pick-true, pick-false}
+use lib.Ieee.{Float, nan, binary32, add}
+use borrow.Author.Tests.{eqb-true, eqb-false, ltb-true, ltb-false}
 use Rattle.loops.specs.Front.{tab, tab-same, tab-list, getD-tab}
 use Rattle.loops.specs.Sum.{sum-none, sum-more}
 use Rattle.plc.specs.Past.{past}
-use Rattle.plc.specs.Pad.{Remembers, Holds, tap, tapsRow, tapsTaken}
+use Rattle.plc.specs.Pad.{Remembers, Holds, tap, tapsRow}
 
 -- the memory's place k written
 pub remember-more : (mem pad : List Float) (k : ℕ) → ((i : ℕ) → i < k → getD pad (23 - i) nan ≡ getD mem i nan) → k < 24 → 24 ≤ length pad

@@ -1,11 +1,10 @@
 -- one turn of Levinson-Durbin, over plain lists
-use mathlib.Core.Path.{_≡_, refl, ap, _∙_, sym}
+use mathlib.Core.Path.{_≡_, ap, _∙_, sym}
 use mathlib.Core.Bool.{Bool, true, false}
 use mathlib.Core.List.{List}
 use Prim.Native.Nat.{ℕ, _+_, _-_, _/_, _≤_}
-use native.Mathlib.Omega.{arith}
 use lib.Ieee.{Float, nan, binary32, sub, mul, lt}
-use lib.ListN.{length, getD, set, replicate}
+use lib.ListN.{getD, set, replicate}
 use Rattle.loops.specs.Fold.{foldTo, fold-suc, fold-none}
 use Rattle.plc.specs.Const.{zero32, small32}
 use Rattle.plc.specs.Lpc.{Lpc, lpcTo, lpcTurn, lpcWith, reflection, crossed, lpc-stops}

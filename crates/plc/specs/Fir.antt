@@ -1,11 +1,12 @@
 -- celt_fir_inplace, by output
-use mathlib.Core.Path.{_≡_, refl, ap, sym, _∙_}
+use mathlib.Core.Path.{_≡_, refl}
 use mathlib.Core.Bool.{Bool, _&&_}
 use mathlib.Core.List.{List, _++_}
-use Prim.Native.Nat.{ℕ, _+_, _-_}
+use Prim.Native.Nat.{ℕ, _+_, _-_, _≤_}
 use native.Mathlib.Omega.{arith}
 use lib.Dec.{eqb, leb}
 use lib.ListN.{length, getD, take, drop, length-append, length-take, length-drop}
+use lib.Seq.{drop-at, length-take-le}
 use lib.Ieee.{Float, nan, binary32, mul}
 use Rattle.loops.specs.Front.{tab, length-tab}
 use Rattle.loops.specs.Sum.{sumTo}
@@ -41,6 +42,11 @@ length-celtFirFrom from num mem x =
 pub celtFirFrom-0 : (num mem x : List Float) → celtFirFrom 0 num mem x ≡ celtFir num mem x
 unfolding celtFirFrom
 celtFirFrom-0 num mem x = refl
+
+-- from place `from` on it is the filter
+pub drop-celtFirFrom : (from : ℕ) (num mem x : List Float) → from ≤ length x → drop from (celtFirFrom from num mem x) ≡ drop from (celtFir num mem x)
+unfolding celtFirFrom
+drop-celtFirFrom from num mem x h = drop-at (take from x) (drop from (celtFir num mem x)) from (length-take-le from x h)
 
 -- the lengths of num, mem and x that are taken
 abbrev pub firTakes : ℕ → ℕ → ℕ → Bool

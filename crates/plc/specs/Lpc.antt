@@ -6,7 +6,7 @@ use Prim.Native.Nat.{ℕ, _+_, _-_, _/_, _≤_}
 use native.Mathlib.Omega.{arith}
 use lib.ListN.{length, getD, set, replicate, length-set, length-replicate}
 use lib.Ieee.{Float, nan, binary32, add, sub, mul, div, neg, lt, eq}
-use Rattle.loops.specs.Fold.{foldTo, fold-keeps, fold-still}
+use Rattle.loops.specs.Fold.{foldTo, fold-suc, fold-keeps, fold-still}
 use Rattle.loops.specs.Pick.{pick-true, pick-false}
 use Rattle.loops.specs.Sum.{sumTo}
 use Rattle.plc.specs.Const.{zero32, small32}
@@ -86,3 +86,17 @@ unfolding lpcTo
 lpc-stops ac p i d h =
     let k : i + (p - i) ≡ p = omega arith in
     ap (lpcTo ac p) (sym k) ∙ fold-still (lpcTurn ac) _ (lpcTo ac p i) i refl (λ n. pick-true _ _ _ d) (p - i)
+
+-- after a turn it is done exactly if the error is below 0.001 of the first correlation
+pub lpc-test : (ac : List Float) (p i : ℕ) → lpcTo ac p i .done ≡ false
+    → lpcTo ac p (i + 1) .done ≡ lt (lpcTo ac p (i + 1) .error) (mul binary32 small32 (getD ac 0 nan))
+unfolding lpcTo
+lpc-test ac p i d =
+    let s : Lpc = lpcTo ac p i in
+    let t : lpcTo ac p (i + 1) ≡ lpcWith ac s i (reflection (s .lpc) (s .error) ac i) = fold-suc (lpcTurn ac) _ i ∙ pick-false _ _ _ d in
+    ap (λ z. z .done) t ∙ sym (ap (λ z. lt (z .error) (mul binary32 small32 (getD ac 0 nan))) t)
+
+-- a NaN error does not stop it
+pub lpc-nan : (ac : List Float) (p i : ℕ) → lpcTo ac p i .done ≡ false → lpcTo ac p (i + 1) .error ≡ nan → lpcTo ac p (i + 1) .done ≡ false
+unfolding lt
+lpc-nan ac p i d e = lpc-test ac p i d ∙ ap (λ z. lt z (mul binary32 small32 (getD ac 0 nan))) e

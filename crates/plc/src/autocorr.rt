@@ -69,8 +69,9 @@ fn window_ends(x: &[f32], window: &[f32], xx: &mut [f32])
     let n = x.len();
     let overlap = window.len();
     for i in 0..overlap {
-        xx[i] = x[i] * window[i];
-        xx[n - i - 1] = x[n - i - 1] * window[i];
+        let w = window[i];
+        xx[i] = x[i] * w;
+        xx[n - i - 1] = x[n - i - 1] * w;
     }
 }
 

@@ -1,72 +1,51 @@
-use mathlib.Core.Path.{_≡_, refl, ap, _∙_, sym}
-use mathlib.Core.List.{List, [], _∷_, _++_}
-use mathlib.Core.Logic.{⊎-elim}
-use Prim.Native.Nat.{ℕ, zero, suc, _+_, _≤_, _<_, _-_}
-use native.Mathlib.Omega.{arith}
-use native.Mathlib.Numerals.{add-one}
-use lib.ListN.{length, getD, set, take, drop, length-set}
+-- The row keeps its 25 places from step to step.
+use mathlib.Core.Path.{_≡_, ap, _∙_, sym}
+use mathlib.Core.List.{List}
+use Prim.Native.Nat.{_-_}
+use lib.ListN.{length}
 use borrow.Author.Needs.{needs}
 use lib.Ieee.{Float}
-use Rattle.plc.specs.Autocorr.{lagRow}
-use Rattle.plc.specs.Autocorr.{celtAutocorr}
+use Rattle.plc.specs.Autocorr.{lagRow, celtAutocorr}
 use Rattle.plc.proofs.Lags.{row-size}
 use Rattle.plc.proofs.autocorr.celt_autocorr_windowed.Statement.{statement}
 use Rattle.plc.proofs.autocorr.celt_autocorr_windowed.Tie as tie
-use Rattle.plc.proofs.autocorr.celt_autocorr_windowed.Reads as reads
-use Rattle.plc.proofs.autocorr.celt_autocorr_windowed.Lts as lts
-use Rattle.plc.proofs.autocorr.by_lag.Reads as by-lag-reads
-use Rattle.plc.proofs.autocorr.first_terms.Reads as first-terms-reads
-use Rattle.plc.proofs.autocorr.other_terms.Reads as other-terms-reads
-use Rattle.plc.proofs.autocorr.window_ends.Reads as window-ends-reads
 
--- src/autocorr.rt:82:28
 slice-aggregate-window-ends : tie.Need-slice-aggregate-window-ends
 slice-aggregate-window-ends c = search needs
 
--- src/autocorr.rt:82:5
 window-ends-requires : tie.Need-window-ends-requires
 window-ends-requires c κs = search needs
 
--- src/autocorr.rt:84:17
 slice-aggregate-first-terms : tie.Need-slice-aggregate-first-terms
 slice-aggregate-first-terms c = search needs
 
--- src/autocorr.rt:84:22
 slice-aggregate-first-terms-2 : tie.Need-slice-aggregate-first-terms-2
 slice-aggregate-first-terms-2 c = search needs
 
--- src/autocorr.rt:84:5
 first-terms-requires : tie.Need-first-terms-requires
 first-terms-requires c κs = search needs
 
--- src/autocorr.rt:85:17
 slice-aggregate-other-terms : tie.Need-slice-aggregate-other-terms
 slice-aggregate-other-terms c = search needs
 
--- src/autocorr.rt:85:22
 slice-aggregate-other-terms-2 : tie.Need-slice-aggregate-other-terms-2
 slice-aggregate-other-terms-2 c = search needs
 
--- src/autocorr.rt:85:5
 other-terms-requires : tie.Need-other-terms-requires
 other-terms-requires c κs = let f = c .before .before .before .first-terms in
     let x : List Float = c .before .before .before .before .before .before .before .window-ends .last .1 .1 .0 in
     let e : length (f .last .1 .0) ≡ 25 = row-size x (f .last .1 .0) 25 24 (f .ensures) in
     (search needs, search needs, f .ensures ∙ ap (λ z. lagRow x z (z - 1)) (sym e))
 
--- src/autocorr.rt:87:12
 slice-aggregate-by-lag : tie.Need-slice-aggregate-by-lag
 slice-aggregate-by-lag c = search needs
 
--- src/autocorr.rt:87:17
 slice-aggregate-by-lag-2 : tie.Need-slice-aggregate-by-lag-2
 slice-aggregate-by-lag-2 c = search needs
 
--- src/autocorr.rt:87:23
 slice-aggregate-by-lag-3 : tie.Need-slice-aggregate-by-lag-3
 slice-aggregate-by-lag-3 c = search needs
 
--- src/autocorr.rt:87:5
 by-lag-requires : tie.Need-by-lag-requires
 by-lag-requires c κs = let g = c .before .before .before .before .before .before .before .before .first-terms in
     let f = c .before .before .before .before .other-terms in
@@ -74,7 +53,6 @@ by-lag-requires c κs = let g = c .before .before .before .before .before .befor
     let e : length (g .last .1 .0) ≡ length (f .last .1 .0) = search needs in
     (search needs, search needs, f .ensures ∙ ap (λ z. lagRow x z (length x)) e)
 
--- src/autocorr.rt:78:1
 returns : tie.Need-returns
 returns c = c .before .by-lag .ensures ∙ ap (λ z. celtAutocorr z 25) (c .before .before .before .before .before .before .before .before .before .before .before .before .before .before .window-ends .ensures)
 

@@ -1,19 +1,14 @@
-use mathlib.Core.Path.{_≡_, refl, ap, _∙_, sym}
-use mathlib.Core.List.{List, [], _∷_, _++_}
-use mathlib.Core.Logic.{⊎-elim}
-use Prim.Native.Nat.{ℕ, zero, suc, _+_, _≤_, _<_, _-_}
-use native.Mathlib.Omega.{arith}
-use native.Mathlib.Numerals.{add-one}
-use lib.ListN.{length, getD, set, take, drop, length-set}
+-- Each place of the row is the sum of its lag below the longest lag.
+use mathlib.Core.Path.{_≡_, refl, ap, _∙_}
+use Prim.Native.Nat.{_≤_, _-_}
+use lib.ListN.{length, length-set}
 use borrow.Author.Needs.{needs}
-use lib.Ieee.{Float, nan}
-use Rattle.loops.specs.Front.{front, tab, tab-none, tab-more, tab-all, length-tab}
-use Rattle.plc.specs.Autocorr.{lagTo, rowAt, lagRow}
+use lib.Ieee.{nan}
+use Rattle.loops.specs.Front.{front, tab, tab-none, tab-more, tab-all}
+use Rattle.plc.specs.Autocorr.{lagTo, rowAt}
 use Rattle.plc.proofs.Lags.{lag-none, lag-more}
 use Rattle.plc.proofs.autocorr.first_terms.Statement.{statement}
 use Rattle.plc.proofs.autocorr.first_terms.Tie as tie
-use Rattle.plc.proofs.autocorr.first_terms.Reads as reads
-use Rattle.plc.proofs.autocorr.first_terms.Lts as lts
 
 abbrev Inv-loop2 : tie.InvT-loop2
 Inv-loop2 x row lags top j lag d₀ i₀ d i = (lag ≤ i) × (i ≤ top) × (d ≡ lagTo x lag i)
@@ -27,72 +22,55 @@ Inv-loop x row₀ lags top j₀ row j = (j ≤ lags) × (length row ≡ lags) ×
 abbrev μ-loop : tie.MeasureT-loop
 μ-loop x row₀ lags top j₀ row j = lags - j
 
--- src/autocorr.rt:13:15
 sub-top : tie.Need-sub-top Inv-loop2 μ-loop2 Inv-loop μ-loop
 sub-top c = search needs
 
--- src/autocorr.rt:14:5
 loop-holds : tie.Need-loop-holds Inv-loop2 μ-loop2 Inv-loop μ-loop
 loop-holds c = (search needs, search needs, tab-none _ _)
 
--- src/autocorr.rt:15:19
 sub-lag : tie.Need-sub-lag Inv-loop2 μ-loop2 Inv-loop μ-loop
 sub-lag c = search needs
 
--- src/autocorr.rt:17:9
 loop2-holds : tie.Need-loop2-holds Inv-loop2 μ-loop2 Inv-loop μ-loop
 loop2-holds c = (search needs, search needs, lag-none _ _ _ (search needs))
 
--- src/autocorr.rt:18:21
 mul-d : tie.Need-mul-d Inv-loop2 μ-loop2 Inv-loop μ-loop
 mul-d c = search needs
 
--- src/autocorr.rt:18:21
 shared-slice-read-d : tie.Need-shared-slice-read-d Inv-loop2 μ-loop2 Inv-loop μ-loop
 shared-slice-read-d c = search needs
 
--- src/autocorr.rt:18:30
 sub-d : tie.Need-sub-d Inv-loop2 μ-loop2 Inv-loop μ-loop
 sub-d c = search needs
 
--- src/autocorr.rt:18:28
 mul-d-2 : tie.Need-mul-d-2 Inv-loop2 μ-loop2 Inv-loop μ-loop
 mul-d-2 c = search needs
 
--- src/autocorr.rt:18:28
 shared-slice-read-d-2 : tie.Need-shared-slice-read-d-2 Inv-loop2 μ-loop2 Inv-loop μ-loop
 shared-slice-read-d-2 c = search needs
 
--- src/autocorr.rt:17:13
 add-i : tie.Need-add-i Inv-loop2 μ-loop2 Inv-loop μ-loop
 add-i c = search needs
 
--- src/autocorr.rt:17:9
 loop2-less : tie.Need-loop2-less Inv-loop2 μ-loop2 Inv-loop μ-loop
 loop2-less c = search needs
 
--- src/autocorr.rt:17:9
 loop2-again : tie.Need-loop2-again Inv-loop2 μ-loop2 Inv-loop μ-loop
 loop2-again c = let h2 = c .before .before .before .loop2 in
     (search needs, search needs, lag-more _ _ (h2 .i) _ (h2 .d) (h2 .inv .0) refl (h2 .inv .2))
 
--- src/autocorr.rt:20:9
 mul-row : tie.Need-mul-row Inv-loop2 μ-loop2 Inv-loop μ-loop
 mul-row c = search needs
 
--- src/autocorr.rt:20:9
 slice-write-row : tie.Need-slice-write-row Inv-loop2 μ-loop2 Inv-loop μ-loop
 slice-write-row c = search needs
 
--- src/autocorr.rt:14:9
 add-j : tie.Need-add-j Inv-loop2 μ-loop2 Inv-loop μ-loop
 add-j c = search needs
 
--- src/autocorr.rt:14:5
 loop-less : tie.Need-loop-less Inv-loop2 μ-loop2 Inv-loop μ-loop
 loop-less c = search needs
 
--- src/autocorr.rt:14:5
 loop-again : tie.Need-loop-again Inv-loop2 μ-loop2 Inv-loop μ-loop
 loop-again c = let h2 = c .before .loop2 in
     let h = c .before .before .before .loop in
@@ -104,11 +82,9 @@ loop-again c = let h2 = c .before .loop2 in
           (h2 .inv .2 ∙ ap (lagTo (a .x .now) (length (a .row .now) - 1 - h .j)) e) (search needs),
     )
 
--- src/autocorr.rt:8:1
 same-length : tie.Need-same-length Inv-loop2 μ-loop2 Inv-loop μ-loop
 same-length c = search needs
 
--- src/autocorr.rt:8:1
 returns : tie.Need-returns Inv-loop2 μ-loop2 Inv-loop μ-loop
 returns c = let h = c .before .loop in
     let a = c .before .before .args in

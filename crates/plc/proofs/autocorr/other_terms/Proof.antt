@@ -1,19 +1,14 @@
-use mathlib.Core.Path.{_≡_, refl, ap, _∙_, sym}
-use mathlib.Core.List.{List, [], _∷_, _++_}
-use mathlib.Core.Logic.{⊎-elim}
-use Prim.Native.Nat.{ℕ, zero, suc, _+_, _≤_, _<_, _-_}
-use native.Mathlib.Omega.{arith}
-use native.Mathlib.Numerals.{add-one}
-use lib.ListN.{length, getD, set, take, drop, length-set}
+-- At sample i the row has every lag's sum below i; inside, the places passed have the term of sample i too.
+use mathlib.Core.Path.{_≡_, ap, _∙_}
+use Prim.Native.Nat.{_+_, _≤_, _-_}
+use lib.ListN.{length, length-set}
 use borrow.Author.Needs.{needs}
-use lib.Ieee.{Float, nan}
-use Rattle.loops.specs.Front.{front, tab, tab-none, tab-all, length-tab}
+use lib.Ieee.{nan}
+use Rattle.loops.specs.Front.{front, tab, tab-none, tab-all}
 use Rattle.plc.specs.Autocorr.{rowAt, lagRow}
 use Rattle.plc.proofs.Lags.{row-more}
 use Rattle.plc.proofs.autocorr.other_terms.Statement.{statement}
 use Rattle.plc.proofs.autocorr.other_terms.Tie as tie
-use Rattle.plc.proofs.autocorr.other_terms.Reads as reads
-use Rattle.plc.proofs.autocorr.other_terms.Lts as lts
 
 abbrev Inv-loop2 : tie.InvT-loop2
 Inv-loop2 x row₀ n lags top i v j₀ row j = (j ≤ lags) × (length row ≡ lags) × (row ≡ front (tab (rowAt x lags (i + 1)) j) row₀ j)
@@ -27,67 +22,51 @@ Inv-loop x row₀ n lags top i₀ row i = (i ≤ n) × (lags ≤ i + 1) × (leng
 abbrev μ-loop : tie.MeasureT-loop
 μ-loop x row₀ n lags top i₀ row i = n - i
 
--- src/autocorr.rt:31:15
 sub-top : tie.Need-sub-top Inv-loop2 μ-loop2 Inv-loop μ-loop
 sub-top c = search needs
 
--- src/autocorr.rt:32:5
 loop-holds : tie.Need-loop-holds Inv-loop2 μ-loop2 Inv-loop μ-loop
 loop-holds c = (search needs, search needs, search needs, c .pre .2)
 
--- src/autocorr.rt:33:17
 mul-v : tie.Need-mul-v Inv-loop2 μ-loop2 Inv-loop μ-loop
 mul-v c = search needs
 
--- src/autocorr.rt:33:17
 shared-slice-read-v : tie.Need-shared-slice-read-v Inv-loop2 μ-loop2 Inv-loop μ-loop
 shared-slice-read-v c = search needs
 
--- src/autocorr.rt:34:9
 loop2-holds : tie.Need-loop2-holds Inv-loop2 μ-loop2 Inv-loop μ-loop
 loop2-holds c = (search needs, search needs, tab-none _ _)
 
--- src/autocorr.rt:35:22
 mul-row : tie.Need-mul-row Inv-loop2 μ-loop2 Inv-loop μ-loop
 mul-row c = search needs
 
--- src/autocorr.rt:35:22
 slice-read-row : tie.Need-slice-read-row Inv-loop2 μ-loop2 Inv-loop μ-loop
 slice-read-row c = search needs
 
--- src/autocorr.rt:35:37
 sub-row : tie.Need-sub-row Inv-loop2 μ-loop2 Inv-loop μ-loop
 sub-row c = search needs
 
--- src/autocorr.rt:35:37
 add-row : tie.Need-add-row Inv-loop2 μ-loop2 Inv-loop μ-loop
 add-row c = search needs
 
--- src/autocorr.rt:35:35
 mul-row-2 : tie.Need-mul-row-2 Inv-loop2 μ-loop2 Inv-loop μ-loop
 mul-row-2 c = search needs
 
--- src/autocorr.rt:35:35
 shared-slice-read-row : tie.Need-shared-slice-read-row Inv-loop2 μ-loop2 Inv-loop μ-loop
 shared-slice-read-row c = search needs
 
--- src/autocorr.rt:35:13
 mul-row-3 : tie.Need-mul-row-3 Inv-loop2 μ-loop2 Inv-loop μ-loop
 mul-row-3 c = search needs
 
--- src/autocorr.rt:35:13
 slice-write-row : tie.Need-slice-write-row Inv-loop2 μ-loop2 Inv-loop μ-loop
 slice-write-row c = search needs
 
--- src/autocorr.rt:34:13
 add-j : tie.Need-add-j Inv-loop2 μ-loop2 Inv-loop μ-loop
 add-j c = search needs
 
--- src/autocorr.rt:34:9
 loop2-less : tie.Need-loop2-less Inv-loop2 μ-loop2 Inv-loop μ-loop
 loop2-less c = search needs
 
--- src/autocorr.rt:34:9
 loop2-again : tie.Need-loop2-again Inv-loop2 μ-loop2 Inv-loop μ-loop
 loop2-again c = let h2 = c .before .before .before .loop2 in
     let h = c .before .before .before .before .before .before .loop in
@@ -97,15 +76,12 @@ loop2-again c = let h2 = c .before .before .before .loop2 in
       row-more (a .x .now) (length (a .row .now)) (h .i) (h2 .j) _ (h .row) (h2 .row) (h .inv .3) (h2 .inv .2) (search needs) (search needs) (search needs),
     )
 
--- src/autocorr.rt:32:9
 add-i : tie.Need-add-i Inv-loop2 μ-loop2 Inv-loop μ-loop
 add-i c = search needs
 
--- src/autocorr.rt:32:5
 loop-less : tie.Need-loop-less Inv-loop2 μ-loop2 Inv-loop μ-loop
 loop-less c = search needs
 
--- src/autocorr.rt:32:5
 loop-again : tie.Need-loop-again Inv-loop2 μ-loop2 Inv-loop μ-loop
 loop-again c = let h2 = c .before .loop2 in
     let h = c .before .before .before .before .loop in
@@ -119,11 +95,9 @@ loop-again c = let h2 = c .before .loop2 in
           ∙ ap (tab (rowAt (a .x .now) (length (a .row .now)) (h .i + 1))) f,
     )
 
--- src/autocorr.rt:25:1
 same-length : tie.Need-same-length Inv-loop2 μ-loop2 Inv-loop μ-loop
 same-length c = search needs
 
--- src/autocorr.rt:25:1
 returns : tie.Need-returns Inv-loop2 μ-loop2 Inv-loop μ-loop
 returns c = let h = c .before .loop in
     let a = c .before .before .args in

@@ -1,18 +1,12 @@
-use mathlib.Core.Path.{_≡_, refl, ap, _∙_, sym}
-use mathlib.Core.List.{List, [], _∷_, _++_}
-use mathlib.Core.Logic.{⊎-elim}
-use Prim.Native.Nat.{ℕ, zero, suc, _+_, _≤_, _<_, _-_}
-use native.Mathlib.Omega.{arith}
-use native.Mathlib.Numerals.{add-one}
-use lib.ListN.{length, getD, set, take, drop, length-set}
+-- After i turns both ends have the window on i samples.
+use mathlib.Core.Path.{_≡_, ap, _∙_, sym}
+use Prim.Native.Nat.{_≤_, _-_}
+use lib.ListN.{length, length-set}
 use borrow.Author.Needs.{needs}
-use lib.Ieee.{Float, nan}
 use Rattle.loops.specs.Fold.{foldTo, fold-none, fold-more}
 use Rattle.plc.specs.Autocorr.{windowTurn, windowedEnds}
 use Rattle.plc.proofs.autocorr.window_ends.Statement.{statement}
 use Rattle.plc.proofs.autocorr.window_ends.Tie as tie
-use Rattle.plc.proofs.autocorr.window_ends.Reads as reads
-use Rattle.plc.proofs.autocorr.window_ends.Lts as lts
 
 abbrev Inv-loop : tie.InvT-loop
 Inv-loop x window xx₀ n overlap i₀ xx i = (i ≤ overlap) × (length xx ≡ n) × (xx ≡ foldTo (windowTurn x window) x i)
@@ -20,93 +14,65 @@ Inv-loop x window xx₀ n overlap i₀ xx i = (i ≤ overlap) × (length xx ≡ 
 abbrev μ-loop : tie.MeasureT-loop
 μ-loop x window xx₀ n overlap i₀ xx i = overlap - i
 
--- src/autocorr.rt:71:5
 loop-holds : tie.Need-loop-holds Inv-loop μ-loop
 loop-holds c = (search needs, search needs, c .pre .1 ∙ sym (fold-none _ _))
 
--- src/autocorr.rt:72:17
+mul-w : tie.Need-mul-w Inv-loop μ-loop
+mul-w c = search needs
+
+shared-slice-read-w : tie.Need-shared-slice-read-w Inv-loop μ-loop
+shared-slice-read-w c = search needs
+
 mul-xx : tie.Need-mul-xx Inv-loop μ-loop
 mul-xx c = search needs
 
--- src/autocorr.rt:72:17
 shared-slice-read-xx : tie.Need-shared-slice-read-xx Inv-loop μ-loop
 shared-slice-read-xx c = search needs
 
--- src/autocorr.rt:72:24
 mul-xx-2 : tie.Need-mul-xx-2 Inv-loop μ-loop
 mul-xx-2 c = search needs
 
--- src/autocorr.rt:72:24
-shared-slice-read-xx-2 : tie.Need-shared-slice-read-xx-2 Inv-loop μ-loop
-shared-slice-read-xx-2 c = search needs
-
--- src/autocorr.rt:72:9
-mul-xx-3 : tie.Need-mul-xx-3 Inv-loop μ-loop
-mul-xx-3 c = search needs
-
--- src/autocorr.rt:72:9
 slice-write-xx : tie.Need-slice-write-xx Inv-loop μ-loop
 slice-write-xx c = search needs
 
--- src/autocorr.rt:73:27
 sub-xx : tie.Need-sub-xx Inv-loop μ-loop
 sub-xx c = search needs
 
--- src/autocorr.rt:73:27
 sub-xx-2 : tie.Need-sub-xx-2 Inv-loop μ-loop
 sub-xx-2 c = search needs
 
--- src/autocorr.rt:73:25
-mul-xx-4 : tie.Need-mul-xx-4 Inv-loop μ-loop
-mul-xx-4 c = search needs
+mul-xx-3 : tie.Need-mul-xx-3 Inv-loop μ-loop
+mul-xx-3 c = search needs
 
--- src/autocorr.rt:73:25
-shared-slice-read-xx-3 : tie.Need-shared-slice-read-xx-3 Inv-loop μ-loop
-shared-slice-read-xx-3 c = search needs
+shared-slice-read-xx-2 : tie.Need-shared-slice-read-xx-2 Inv-loop μ-loop
+shared-slice-read-xx-2 c = search needs
 
--- src/autocorr.rt:73:40
-mul-xx-5 : tie.Need-mul-xx-5 Inv-loop μ-loop
-mul-xx-5 c = search needs
-
--- src/autocorr.rt:73:40
-shared-slice-read-xx-4 : tie.Need-shared-slice-read-xx-4 Inv-loop μ-loop
-shared-slice-read-xx-4 c = search needs
-
--- src/autocorr.rt:73:12
 sub-xx-3 : tie.Need-sub-xx-3 Inv-loop μ-loop
 sub-xx-3 c = search needs
 
--- src/autocorr.rt:73:12
 sub-xx-4 : tie.Need-sub-xx-4 Inv-loop μ-loop
 sub-xx-4 c = search needs
 
--- src/autocorr.rt:73:9
-mul-xx-6 : tie.Need-mul-xx-6 Inv-loop μ-loop
-mul-xx-6 c = search needs
+mul-xx-4 : tie.Need-mul-xx-4 Inv-loop μ-loop
+mul-xx-4 c = search needs
 
--- src/autocorr.rt:73:9
 slice-write-xx-2 : tie.Need-slice-write-xx-2 Inv-loop μ-loop
 slice-write-xx-2 c = simp length-set (search needs)
 
--- src/autocorr.rt:71:9
 add-i : tie.Need-add-i Inv-loop μ-loop
 add-i c = search needs
 
--- src/autocorr.rt:71:5
 loop-less : tie.Need-loop-less Inv-loop μ-loop
 loop-less c = search needs
 
--- src/autocorr.rt:71:5
 loop-again : tie.Need-loop-again Inv-loop μ-loop
-loop-again c = let h = c .before .before .before .before .before .loop in
-    let a = c .before .before .before .before .before .before .args in
+loop-again c = let h = c .before .before .before .before .loop in
+    let a = c .before .before .before .before .before .args in
     (search needs, simp length-set (search needs), fold-more (windowTurn (a .x .now) (a .window .now)) (a .x .now) (h .xx) (h .i) (h .inv .2))
 
--- src/autocorr.rt:65:1
 same-length : tie.Need-same-length Inv-loop μ-loop
 same-length c = search needs
 
--- src/autocorr.rt:65:1
 returns : tie.Need-returns Inv-loop μ-loop
 unfolding windowedEnds
 returns c = let h = c .before .loop in
@@ -121,21 +87,19 @@ window-ends-spec =
     Inv-loop
     μ-loop
     loop-holds
+    mul-w
+    shared-slice-read-w
     mul-xx
     shared-slice-read-xx
     mul-xx-2
-    shared-slice-read-xx-2
-    mul-xx-3
     slice-write-xx
     sub-xx
     sub-xx-2
-    mul-xx-4
-    shared-slice-read-xx-3
-    mul-xx-5
-    shared-slice-read-xx-4
+    mul-xx-3
+    shared-slice-read-xx-2
     sub-xx-3
     sub-xx-4
-    mul-xx-6
+    mul-xx-4
     slice-write-xx-2
     add-i
     loop-less

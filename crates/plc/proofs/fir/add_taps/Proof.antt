@@ -1,20 +1,14 @@
-use mathlib.Core.Path.{_≡_, refl, ap, _∙_, sym}
-use mathlib.Core.List.{List, [], _∷_, _++_}
-use mathlib.Core.Logic.{⊎-elim}
-use Prim.Native.Nat.{ℕ, zero, suc, _+_, _≤_, _<_, _-_}
-use native.Mathlib.Omega.{arith}
-use native.Mathlib.Numerals.{add-one}
-use lib.ListN.{length, getD, set, take, drop, length-set}
+-- After j rows every sample has its first j taps; inside, the samples passed have one more.
+use mathlib.Core.Path.{_≡_, ap, _∙_}
+use Prim.Native.Nat.{_≤_, _-_}
+use lib.ListN.{length, getD, length-set}
 use borrow.Author.Needs.{needs}
-use lib.Ieee.{Float, nan}
-use Rattle.loops.specs.Front.{front, tab, tab-none, tab-more, tab-read, tab-all, length-tab}
+use lib.Ieee.{nan, binary32, add}
+use Rattle.loops.specs.Front.{front, tab, tab-none, tab-more, tab-read, tab-all}
 use Rattle.plc.specs.Pad.{tap, tapsRow}
-use lib.Ieee.{binary32, add}
 use Rattle.plc.proofs.Taps.{tapOn, tap-none, tap-more}
 use Rattle.plc.proofs.fir.add_taps.Statement.{statement}
 use Rattle.plc.proofs.fir.add_taps.Tie as tie
-use Rattle.plc.proofs.fir.add_taps.Reads as reads
-use Rattle.plc.proofs.fir.add_taps.Lts as lts
 
 abbrev Inv-loop2 : tie.InvT-loop2
 Inv-loop2 out₀ num pad n ord j c i₀ out i = (i ≤ n) × (length out ≡ n) × (out ≡ front (tab (tapOn num pad out₀ j) i) out₀ i)
@@ -28,63 +22,48 @@ Inv-loop out₀ num pad n ord j₀ out j = (j ≤ ord) × (length out ≡ n) × 
 abbrev μ-loop : tie.MeasureT-loop
 μ-loop out₀ num pad n ord j₀ out j = ord - j
 
--- src/fir.rt:33:5
 loop-holds : tie.Need-loop-holds Inv-loop2 μ-loop2 Inv-loop μ-loop
 loop-holds c = (search needs, search needs, tap-none (c .args .num .now) (c .args .pad .now) _)
 
--- src/fir.rt:34:17
 mul-c : tie.Need-mul-c Inv-loop2 μ-loop2 Inv-loop μ-loop
 mul-c c = search needs
 
--- src/fir.rt:34:17
 shared-slice-read-c : tie.Need-shared-slice-read-c Inv-loop2 μ-loop2 Inv-loop μ-loop
 shared-slice-read-c c = search needs
 
--- src/fir.rt:35:9
 loop2-holds : tie.Need-loop2-holds Inv-loop2 μ-loop2 Inv-loop μ-loop
 loop2-holds c = (search needs, search needs, tab-none _ _)
 
--- src/fir.rt:36:22
 mul-out : tie.Need-mul-out Inv-loop2 μ-loop2 Inv-loop μ-loop
 mul-out c = search needs
 
--- src/fir.rt:36:22
 slice-read-out : tie.Need-slice-read-out Inv-loop2 μ-loop2 Inv-loop μ-loop
 slice-read-out c = search needs
 
--- src/fir.rt:36:39
 add-out : tie.Need-add-out Inv-loop2 μ-loop2 Inv-loop μ-loop
 add-out c = search needs
 
--- src/fir.rt:36:39
 sub-out : tie.Need-sub-out Inv-loop2 μ-loop2 Inv-loop μ-loop
 sub-out c = search needs
 
--- src/fir.rt:36:35
 mul-out-2 : tie.Need-mul-out-2 Inv-loop2 μ-loop2 Inv-loop μ-loop
 mul-out-2 c = search needs
 
--- src/fir.rt:36:35
 shared-slice-read-out : tie.Need-shared-slice-read-out Inv-loop2 μ-loop2 Inv-loop μ-loop
 shared-slice-read-out c = search needs
 
--- src/fir.rt:36:13
 mul-out-3 : tie.Need-mul-out-3 Inv-loop2 μ-loop2 Inv-loop μ-loop
 mul-out-3 c = search needs
 
--- src/fir.rt:36:13
 slice-write-out : tie.Need-slice-write-out Inv-loop2 μ-loop2 Inv-loop μ-loop
 slice-write-out c = search needs
 
--- src/fir.rt:35:13
 add-i : tie.Need-add-i Inv-loop2 μ-loop2 Inv-loop μ-loop
 add-i c = search needs
 
--- src/fir.rt:35:9
 loop2-less : tie.Need-loop2-less Inv-loop2 μ-loop2 Inv-loop μ-loop
 loop2-less c = search needs
 
--- src/fir.rt:35:9
 loop2-again : tie.Need-loop2-again Inv-loop2 μ-loop2 Inv-loop μ-loop
 loop2-again c = let h2 = c .before .before .before .loop2 in
     let h = c .before .before .before .before .before .before .loop in
@@ -96,15 +75,12 @@ loop2-again c = let h2 = c .before .before .before .loop2 in
       tab-more f nan (h .out) (h2 .out) (h2 .i) (h2 .inv .2) _ (ap (λ z. add binary32 z (tap (a .num .now) (a .pad .now) (h2 .i) (h .j))) r) (search needs),
     )
 
--- src/fir.rt:33:9
 add-j : tie.Need-add-j Inv-loop2 μ-loop2 Inv-loop μ-loop
 add-j c = search needs
 
--- src/fir.rt:33:5
 loop-less : tie.Need-loop-less Inv-loop2 μ-loop2 Inv-loop μ-loop
 loop-less c = search needs
 
--- src/fir.rt:33:5
 loop-again : tie.Need-loop-again Inv-loop2 μ-loop2 Inv-loop μ-loop
 loop-again c = let h2 = c .before .loop2 in
     let h = c .before .before .before .before .loop in
@@ -116,11 +92,9 @@ loop-again c = let h2 = c .before .loop2 in
     ∙ ap (tab (tapOn (a .num .now) (a .pad .now) (h .out) (h .j))) g in
     (search needs, search needs, tap-more (a .num .now) (a .pad .now) (a .out .now) (h .out) (h2 .out) (length (a .out .now)) (h .j) (h .inv .2) t)
 
--- src/fir.rt:27:1
 same-length : tie.Need-same-length Inv-loop2 μ-loop2 Inv-loop μ-loop
 same-length c = search needs
 
--- src/fir.rt:27:1
 returns : tie.Need-returns Inv-loop2 μ-loop2 Inv-loop μ-loop
 returns c = let h = c .before .loop in
     let a = c .before .before .args in

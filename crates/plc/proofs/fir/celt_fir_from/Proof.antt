@@ -1,93 +1,64 @@
-use mathlib.Core.Path.{_≡_, refl, ap, _∙_, sym}
-use mathlib.Core.List.{List, [], _∷_, _++_}
-use mathlib.Core.Logic.{⊎-elim}
-use Prim.Native.Nat.{ℕ, zero, suc, _+_, _≤_, _<_, _-_}
-use native.Mathlib.Omega.{arith}
-use native.Mathlib.Numerals.{add-one}
-use lib.ListN.{length, getD, set, take, drop, length-set}
+-- Each refusal by its test; else the taps of the padded part are the filter from that place on.
+use Prim.Native.Nat.{_-_}
+use lib.ListN.{length}
 use borrow.Author.Needs.{needs}
-use mathlib.Core.Bool.{_&&_}
-use lib.Dec.{leb}
-use borrow.Author.Tests.{eq-eqb, ne-eqb, le-leb, lt-leb}
-use Rattle.plc.specs.Fir.{firTakes}
 use Rattle.plc.proofs.Firs.{fir-part, fir-none, fir-unlike, fir-order, fir-long, fir-takes}
 use Rattle.plc.proofs.Answer.{refused, taken}
 use Rattle.plc.proofs.fir.celt_fir_from.Statement.{statement}
 use Rattle.plc.proofs.fir.celt_fir_from.Tie as tie
-use Rattle.plc.proofs.fir.celt_fir_from.Reads as reads
-use Rattle.plc.proofs.fir.celt_fir_from.Lts as lts
-use Rattle.plc.proofs.fir.add_taps.Reads as add-taps-reads
-use Rattle.plc.proofs.fir.padded.Reads as padded-reads
 
--- src/fir.rt:48:9
 returns : tie.Need-returns
 returns c = let a = c .before .before .before .before .args in
     refused _ _ _ (fir-unlike (length (a .num .now)) (length (a .mem .now)) (length (a .buf .now)) (search needs))
 
--- src/fir.rt:51:9
 returns-2 : tie.Need-returns-2
 returns-2 c = let a = c .before .before .before .before .before .args in
     refused _ _ _ (fir-order (length (a .num .now)) (length (a .mem .now)) (length (a .buf .now)) (search needs) (search needs))
 
--- src/fir.rt:54:9
 returns-3 : tie.Need-returns-3
 returns-3 c = let a = c .before .before .before .before .before .before .args in
     refused _ _ _ (fir-long (length (a .num .now)) (length (a .mem .now)) (length (a .buf .now)) (search needs) (search needs) (search needs))
 
--- src/fir.rt:57:9
 returns-4 : tie.Need-returns-4
 returns-4 c = let a = c .before .before .before .before .before .before .before .args in
     taken _ _ _ _ (fir-takes (length (a .num .now)) (length (a .mem .now)) (length (a .buf .now)) (search needs) (search needs) (search needs)) (fir-none (a .num .now) (a .mem .now) (a .buf .now) (a .from) (search needs))
 
--- src/fir.rt:59:15
 padded-requires : tie.Need-padded-requires
 padded-requires c κs = search needs
 
--- src/fir.rt:60:15
 add-end : tie.Need-add-end
 add-end c = search needs
 
--- src/fir.rt:61:14
 mul-add-taps : tie.Need-mul-add-taps
 mul-add-taps c = search needs
 
--- src/fir.rt:61:14
 sub-add-taps : tie.Need-sub-add-taps
 sub-add-taps c = search needs
 
--- src/fir.rt:61:14
 part-add-taps-start : tie.Need-part-add-taps-start
 part-add-taps-start c = search needs
 
--- src/fir.rt:61:14
 part-add-taps-end : tie.Need-part-add-taps-end
 part-add-taps-end c = search needs
 
--- src/fir.rt:61:37
 mul-add-taps-2 : tie.Need-mul-add-taps-2
 mul-add-taps-2 c = search needs
 
--- src/fir.rt:61:37
 sub-add-taps-2 : tie.Need-sub-add-taps-2
 sub-add-taps-2 c = search needs
 
--- src/fir.rt:61:37
 part-add-taps-start-2 : tie.Need-part-add-taps-start-2
 part-add-taps-start-2 c = search needs
 
--- src/fir.rt:61:37
 part-add-taps-end-2 : tie.Need-part-add-taps-end-2
 part-add-taps-end-2 c = search needs
 
--- src/fir.rt:61:5
 add-taps-requires : tie.Need-add-taps-requires
 add-taps-requires c κs = search needs
 
--- src/fir.rt:41:1
 same-length : tie.Need-same-length
 same-length c = search needs
 
--- src/fir.rt:41:1
 returns-5 : tie.Need-returns-5
 returns-5 c = let a = c .before .before .before .before .before .before .before .before .before .before .before .before .before .before .before .args in
     let p = c .before .before .before .before .before .before .padded in

@@ -1,23 +1,14 @@
-use mathlib.Core.Path.{_≡_, refl, ap, _∙_, sym}
-use mathlib.Core.List.{List, [], _∷_, _++_}
-use mathlib.Core.Logic.{⊎-elim}
-use Prim.Native.Nat.{ℕ, zero, suc, _+_, _≤_, _<_, _-_}
-use native.Mathlib.Omega.{arith}
-use native.Mathlib.Numerals.{add-one}
-use lib.ListN.{length, getD, set, take, drop, length-set}
+-- After i turns the first i outputs of either channel stand in its buffer, and behind its memory.
+use mathlib.Core.Path.{_≡_, _∙_, sym}
+use Prim.Native.Nat.{_≤_, _-_}
+use lib.ListN.{length}
 use borrow.Author.Needs.{needs}
-use lib.Ieee.{Float, nan}
 use mathlib.Core.Bool.{true, false}
 use Rattle.plc.specs.Iir.{iirPairTakes}
 use Rattle.loops.specs.Pick.{pick-true, pick-false}
-use Rattle.plc.proofs.Iirs.{pair-unlike, pair-long, pair-takes}
-use Rattle.plc.proofs.Iirs.{Filtered, filtered-none, filtered-more, filtered-all}
+use Rattle.plc.proofs.Iirs.{pair-unlike, pair-long, pair-takes, Filtered, filtered-none, filtered-more, filtered-all}
 use Rattle.plc.proofs.iir.celt_iir_pair.Statement.{statement}
 use Rattle.plc.proofs.iir.celt_iir_pair.Tie as tie
-use Rattle.plc.proofs.iir.celt_iir_pair.Reads as reads
-use Rattle.plc.proofs.iir.celt_iir_pair.Lts as lts
-use Rattle.plc.proofs.iir.less_taps.Reads as less-taps-reads
-use Rattle.plc.proofs.pad.remember.Reads as remember-reads
 
 abbrev Inv-loop : tie.InvT-loop
 Inv-loop a₀ b₀ den-a den-b mem-a mem-b n y₀ z₀ i₀ a b y z i = (i ≤ n) × Filtered den-a mem-a a₀ a y i × Filtered den-b mem-b b₀ b z i
@@ -25,35 +16,28 @@ Inv-loop a₀ b₀ den-a den-b mem-a mem-b n y₀ z₀ i₀ a b y z i = (i ≤ n
 abbrev μ-loop : tie.MeasureT-loop
 μ-loop a₀ b₀ den-a den-b mem-a mem-b n y₀ z₀ i₀ a b y z i = n - i
 
--- src/iir.rt:55:9
 returns : tie.Need-returns Inv-loop μ-loop
 returns c = let a = c .before .before .before .args in
     let e : iirPairTakes (length (a .a .now)) (length (a .b .now)) ≡ false = pair-unlike (length (a .a .now)) (length (a .b .now)) (search needs) in
     (sym e, sym (pick-false _ _ _ e), sym (pick-false _ _ _ e))
 
--- src/iir.rt:58:9
 returns-2 : tie.Need-returns-2 Inv-loop μ-loop
 returns-2 c = let a = c .before .before .before .before .args in
     let e : iirPairTakes (length (a .a .now)) (length (a .b .now)) ≡ false = pair-long (length (a .a .now)) (length (a .b .now)) (search needs) (search needs) in
     (sym e, sym (pick-false _ _ _ e), sym (pick-false _ _ _ e))
 
--- src/iir.rt:62:26
 slice-aggregate-remember : tie.Need-slice-aggregate-remember Inv-loop μ-loop
 slice-aggregate-remember c = search needs
 
--- src/iir.rt:62:5
 remember-requires : tie.Need-remember-requires Inv-loop μ-loop
 remember-requires c κs = search needs
 
--- src/iir.rt:63:26
 slice-aggregate-remember-2 : tie.Need-slice-aggregate-remember-2 Inv-loop μ-loop
 slice-aggregate-remember-2 c = search needs
 
--- src/iir.rt:63:5
 remember-requires-2 : tie.Need-remember-requires-2 Inv-loop μ-loop
 remember-requires-2 c κs = search needs
 
--- src/iir.rt:64:5
 loop-holds : tie.Need-loop-holds Inv-loop μ-loop
 loop-holds c = let a = c .before .before .before .before .before .before .before .before .before .before .before .before .args in
     let r = c .before .before .before .before .before .remember in
@@ -63,87 +47,66 @@ loop-holds c = let a = c .before .before .before .before .before .before .before
       filtered-none (a .den-b .now) (a .mem-b .now) (a .b .now) (q .last .0) (search needs) (q .ensures),
     )
 
--- src/iir.rt:65:38
 slice-aggregate-less-taps : tie.Need-slice-aggregate-less-taps Inv-loop μ-loop
 slice-aggregate-less-taps c = search needs
 
--- src/iir.rt:65:45
 mul-less-taps : tie.Need-mul-less-taps Inv-loop μ-loop
 mul-less-taps c = search needs
 
--- src/iir.rt:65:45
 slice-read-less-taps : tie.Need-slice-read-less-taps Inv-loop μ-loop
 slice-read-less-taps c = search needs
 
--- src/iir.rt:65:13
 less-taps-requires : tie.Need-less-taps-requires Inv-loop μ-loop
 less-taps-requires c κs = search needs
 
--- src/iir.rt:66:38
 slice-aggregate-less-taps-2 : tie.Need-slice-aggregate-less-taps-2 Inv-loop μ-loop
 slice-aggregate-less-taps-2 c = search needs
 
--- src/iir.rt:66:45
 mul-less-taps-2 : tie.Need-mul-less-taps-2 Inv-loop μ-loop
 mul-less-taps-2 c = search needs
 
--- src/iir.rt:66:45
 slice-read-less-taps-2 : tie.Need-slice-read-less-taps-2 Inv-loop μ-loop
 slice-read-less-taps-2 c = search needs
 
--- src/iir.rt:66:13
 less-taps-requires-2 : tie.Need-less-taps-requires-2 Inv-loop μ-loop
 less-taps-requires-2 c κs = search needs
 
--- src/iir.rt:67:11
 add-y : tie.Need-add-y Inv-loop μ-loop
 add-y c = search needs
 
--- src/iir.rt:67:9
 mul-y : tie.Need-mul-y Inv-loop μ-loop
 mul-y c = search needs
 
--- src/iir.rt:67:9
 array-write-y : tie.Need-array-write-y Inv-loop μ-loop
 array-write-y c = search needs
 
--- src/iir.rt:68:11
 add-z : tie.Need-add-z Inv-loop μ-loop
 add-z c = search needs
 
--- src/iir.rt:68:9
 mul-z : tie.Need-mul-z Inv-loop μ-loop
 mul-z c = search needs
 
--- src/iir.rt:68:9
 array-write-z : tie.Need-array-write-z Inv-loop μ-loop
 array-write-z c = search needs
 
--- src/iir.rt:69:9
 mul-a : tie.Need-mul-a Inv-loop μ-loop
 mul-a c = search needs
 
--- src/iir.rt:69:9
 slice-write-a : tie.Need-slice-write-a Inv-loop μ-loop
 slice-write-a c = search needs
 
--- src/iir.rt:70:9
 mul-b : tie.Need-mul-b Inv-loop μ-loop
 mul-b c = search needs
 
--- src/iir.rt:70:9
 slice-write-b : tie.Need-slice-write-b Inv-loop μ-loop
 slice-write-b c = search needs
 
--- src/iir.rt:64:9
 add-i : tie.Need-add-i Inv-loop μ-loop
 add-i c = search needs
 
--- src/iir.rt:64:5
 loop-less : tie.Need-loop-less Inv-loop μ-loop
 loop-less c = search needs
 
--- src/iir.rt:64:5
 loop-again : tie.Need-loop-again Inv-loop μ-loop
 loop-again c = let h = c .before .before .before .before .before .before .before .before .before .loop in
     let a = c .before .before .before .before .before .before .before .before .before .before .before .before .before .before .before .before .before .before .before .before .before .before .args in
@@ -154,15 +117,12 @@ loop-again c = let h = c .before .before .before .before .before .before .before
       filtered-more (a .den-b .now) (a .mem-b .now) (a .b .now) (h .b) (h .z) (h .i) (t .result) (h .inv .2) (search needs) (search needs) (search needs) (search needs) (t .ensures),
     )
 
--- src/iir.rt:41:1
 same-length : tie.Need-same-length Inv-loop μ-loop
 same-length c = search needs
 
--- src/iir.rt:41:1
 same-length-2 : tie.Need-same-length-2 Inv-loop μ-loop
 same-length-2 c = search needs
 
--- src/iir.rt:41:1
 returns-3 : tie.Need-returns-3 Inv-loop μ-loop
 returns-3 c = let h = c .before .loop in
     let a = c .before .before .before .before .before .before .before .before .before .before .before .before .before .before .args in

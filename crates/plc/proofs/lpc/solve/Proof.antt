@@ -1,15 +1,12 @@
-use mathlib.Core.Path.{_≡_, refl, ap, _∙_, sym}
-use mathlib.Core.List.{List, [], _∷_, _++_}
-use mathlib.Core.Logic.{⊎-elim}
-use Prim.Native.Nat.{ℕ, zero, suc, _+_, _≤_, _<_, _-_}
+-- Zeros first; then the coefficients and the error after i turns, none of which stopped; at a stop nothing later changes.
+use mathlib.Core.Path.{_≡_, ap, _∙_, sym}
+use mathlib.Core.List.{List}
+use Prim.Native.Nat.{_+_, _≤_, _-_, _/_}
 use native.Mathlib.Omega.{arith}
-use native.Mathlib.Numerals.{add-one}
-use lib.ListN.{length, getD, set, take, drop, length-set}
+use lib.ListN.{length, getD, length-set, replicate}
 use borrow.Author.Needs.{needs}
 use Rattle.loops.specs.Fold.{foldTo, fold-more, fold-none}
-use lib.ListN.{replicate}
-use Prim.Native.Nat.{_/_}
-use mathlib.Core.Bool.{Bool, true, false, cond}
+use mathlib.Core.Bool.{true, false}
 use lib.Ieee.{Float, nan, binary32, add, div, neg}
 use Rattle.loops.specs.Pick.{pick-true, pick-false}
 use Rattle.loops.specs.Front.{front, fill-none, fill-more, fill-all}
@@ -19,8 +16,6 @@ use Rattle.loops.specs.Sum.{sum-none, sum-more}
 use Rattle.plc.proofs.Turn.{state, none, more, stopped}
 use Rattle.plc.proofs.lpc.solve.Statement.{statement}
 use Rattle.plc.proofs.lpc.solve.Tie as tie
-use Rattle.plc.proofs.lpc.solve.Reads as reads
-use Rattle.plc.proofs.lpc.solve.Lts as lts
 
 abbrev Inv-loop : tie.InvT-loop
 Inv-loop lpc₀ ac p error k₀ lpc k = (k ≤ length lpc₀) × (length lpc ≡ length lpc₀) × (lpc ≡ front (replicate k zero32) lpc₀ k)
@@ -46,7 +41,6 @@ Inv-loop2 lpc₀ ac p error₀ i₀ lpc error i = (i ≤ p) × (length lpc ≡ p
 abbrev μ-loop2 : tie.MeasureT-loop2
 μ-loop2 lpc₀ ac p error₀ i₀ lpc error i = p - i
 
--- src/lpc.rt:11:21
 shared-slice-read-error :
     tie.Need-shared-slice-read-error
     Inv-loop
@@ -59,35 +53,28 @@ shared-slice-read-error :
     μ-loop2
 shared-slice-read-error c = search needs
 
--- src/lpc.rt:12:5
 loop-holds :
     tie.Need-loop-holds Inv-loop μ-loop Inv-loop3 μ-loop3 Inv-loop4 μ-loop4 Inv-loop2 μ-loop2
 loop-holds c = (search needs, search needs, fill-none zero32 _)
 
--- src/lpc.rt:13:9
 mul-lpc : tie.Need-mul-lpc Inv-loop μ-loop Inv-loop3 μ-loop3 Inv-loop4 μ-loop4 Inv-loop2 μ-loop2
 mul-lpc c = search needs
 
--- src/lpc.rt:13:9
 slice-write-lpc :
     tie.Need-slice-write-lpc Inv-loop μ-loop Inv-loop3 μ-loop3 Inv-loop4 μ-loop4 Inv-loop2 μ-loop2
 slice-write-lpc c = search needs
 
--- src/lpc.rt:12:9
 add-k : tie.Need-add-k Inv-loop μ-loop Inv-loop3 μ-loop3 Inv-loop4 μ-loop4 Inv-loop2 μ-loop2
 add-k c = search needs
 
--- src/lpc.rt:12:5
 loop-less :
     tie.Need-loop-less Inv-loop μ-loop Inv-loop3 μ-loop3 Inv-loop4 μ-loop4 Inv-loop2 μ-loop2
 loop-less c = search needs
 
--- src/lpc.rt:12:5
 loop-again :
     tie.Need-loop-again Inv-loop μ-loop Inv-loop3 μ-loop3 Inv-loop4 μ-loop4 Inv-loop2 μ-loop2
 loop-again c = (search needs, search needs, fill-more _ _ _ _ (c .before .loop .inv .2) (search needs))
 
--- src/lpc.rt:15:8
 shared-slice-read-if1 :
     tie.Need-shared-slice-read-if1
     Inv-loop
@@ -100,12 +87,10 @@ shared-slice-read-if1 :
     μ-loop2
 shared-slice-read-if1 c = search needs
 
--- src/lpc.rt:16:9
 same-length :
     tie.Need-same-length Inv-loop μ-loop Inv-loop3 μ-loop3 Inv-loop4 μ-loop4 Inv-loop2 μ-loop2
 same-length c = search needs
 
--- src/lpc.rt:16:9
 returns : tie.Need-returns Inv-loop μ-loop Inv-loop3 μ-loop3 Inv-loop4 μ-loop4 Inv-loop2 μ-loop2
 unfolding celtLpc
 returns c =
@@ -113,7 +98,6 @@ returns c =
     let e : length (a .before .before .args .lpc .now) ≡ a .loop .k = search needs in
     fill-all _ _ _ _ (a .loop .inv .2) e ∙ sym (pick-true _ _ _ (c .if1 .taken))
 
--- src/lpc.rt:18:5
 loop2-holds :
     tie.Need-loop2-holds Inv-loop μ-loop Inv-loop3 μ-loop3 Inv-loop4 μ-loop4 Inv-loop2 μ-loop2
 loop2-holds c =
@@ -122,29 +106,23 @@ loop2-holds c =
     let g = a .before .before .args in
     (search needs, search needs, none (g .ac .now) (length (g .lpc .now)) ∙ ap (λ z. state z (getD (g .ac .now) 0 nan) false) (sym (fill-all _ _ _ _ (a .loop .inv .2) e)))
 
--- src/lpc.rt:20:9
 loop3-holds :
     tie.Need-loop3-holds Inv-loop μ-loop Inv-loop3 μ-loop3 Inv-loop4 μ-loop4 Inv-loop2 μ-loop2
 loop3-holds c = (search needs, sym (sum-none _ _ _))
 
--- src/lpc.rt:21:19
 mul-rr : tie.Need-mul-rr Inv-loop μ-loop Inv-loop3 μ-loop3 Inv-loop4 μ-loop4 Inv-loop2 μ-loop2
 mul-rr c = search needs
 
--- src/lpc.rt:21:19
 slice-read-rr :
     tie.Need-slice-read-rr Inv-loop μ-loop Inv-loop3 μ-loop3 Inv-loop4 μ-loop4 Inv-loop2 μ-loop2
 slice-read-rr c = search needs
 
--- src/lpc.rt:21:31
 sub-rr : tie.Need-sub-rr Inv-loop μ-loop Inv-loop3 μ-loop3 Inv-loop4 μ-loop4 Inv-loop2 μ-loop2
 sub-rr c = search needs
 
--- src/lpc.rt:21:28
 mul-rr-2 : tie.Need-mul-rr-2 Inv-loop μ-loop Inv-loop3 μ-loop3 Inv-loop4 μ-loop4 Inv-loop2 μ-loop2
 mul-rr-2 c = search needs
 
--- src/lpc.rt:21:28
 shared-slice-read-rr :
     tie.Need-shared-slice-read-rr
     Inv-loop
@@ -157,29 +135,23 @@ shared-slice-read-rr :
     μ-loop2
 shared-slice-read-rr c = search needs
 
--- src/lpc.rt:20:13
 add-j : tie.Need-add-j Inv-loop μ-loop Inv-loop3 μ-loop3 Inv-loop4 μ-loop4 Inv-loop2 μ-loop2
 add-j c = search needs
 
--- src/lpc.rt:20:9
 loop3-less :
     tie.Need-loop3-less Inv-loop μ-loop Inv-loop3 μ-loop3 Inv-loop4 μ-loop4 Inv-loop2 μ-loop2
 loop3-less c = search needs
 
--- src/lpc.rt:20:9
 loop3-again :
     tie.Need-loop3-again Inv-loop μ-loop Inv-loop3 μ-loop3 Inv-loop4 μ-loop4 Inv-loop2 μ-loop2
 loop3-again c = (search needs, sum-more _ _ _ _ _ (c .before .before .before .loop3 .inv .1))
 
--- src/lpc.rt:23:18
 add-rr : tie.Need-add-rr Inv-loop μ-loop Inv-loop3 μ-loop3 Inv-loop4 μ-loop4 Inv-loop2 μ-loop2
 add-rr c = search needs
 
--- src/lpc.rt:23:15
 mul-rr-3 : tie.Need-mul-rr-3 Inv-loop μ-loop Inv-loop3 μ-loop3 Inv-loop4 μ-loop4 Inv-loop2 μ-loop2
 mul-rr-3 c = search needs
 
--- src/lpc.rt:23:15
 shared-slice-read-rr-2 :
     tie.Need-shared-slice-read-rr-2
     Inv-loop
@@ -192,12 +164,10 @@ shared-slice-read-rr-2 :
     μ-loop2
 shared-slice-read-rr-2 c = search needs
 
--- src/lpc.rt:25:9
 mul-lpc-2 :
     tie.Need-mul-lpc-2 Inv-loop μ-loop Inv-loop3 μ-loop3 Inv-loop4 μ-loop4 Inv-loop2 μ-loop2
 mul-lpc-2 c = search needs
 
--- src/lpc.rt:25:9
 slice-write-lpc-2 :
     tie.Need-slice-write-lpc-2
     Inv-loop
@@ -210,49 +180,39 @@ slice-write-lpc-2 :
     μ-loop2
 slice-write-lpc-2 c = search needs
 
--- src/lpc.rt:26:23
 add-j-end :
     tie.Need-add-j-end Inv-loop μ-loop Inv-loop3 μ-loop3 Inv-loop4 μ-loop4 Inv-loop2 μ-loop2
 add-j-end c = search needs
 
--- src/lpc.rt:26:9
 loop4-holds :
     tie.Need-loop4-holds Inv-loop μ-loop Inv-loop3 μ-loop3 Inv-loop4 μ-loop4 Inv-loop2 μ-loop2
 loop4-holds c = (search needs, search needs, simp length-set (search needs), sym (fold-none _ _))
 
--- src/lpc.rt:27:24
 mul-tmp1 : tie.Need-mul-tmp1 Inv-loop μ-loop Inv-loop3 μ-loop3 Inv-loop4 μ-loop4 Inv-loop2 μ-loop2
 mul-tmp1 c = search needs
 
--- src/lpc.rt:27:24
 slice-read-tmp1 :
     tie.Need-slice-read-tmp1 Inv-loop μ-loop Inv-loop3 μ-loop3 Inv-loop4 μ-loop4 Inv-loop2 μ-loop2
 slice-read-tmp1 c = search needs
 
--- src/lpc.rt:28:28
 sub-tmp2 : tie.Need-sub-tmp2 Inv-loop μ-loop Inv-loop3 μ-loop3 Inv-loop4 μ-loop4 Inv-loop2 μ-loop2
 sub-tmp2 c = search needs
 
--- src/lpc.rt:28:28
 sub-tmp2-2 :
     tie.Need-sub-tmp2-2 Inv-loop μ-loop Inv-loop3 μ-loop3 Inv-loop4 μ-loop4 Inv-loop2 μ-loop2
 sub-tmp2-2 c = search needs
 
--- src/lpc.rt:28:24
 mul-tmp2 : tie.Need-mul-tmp2 Inv-loop μ-loop Inv-loop3 μ-loop3 Inv-loop4 μ-loop4 Inv-loop2 μ-loop2
 mul-tmp2 c = search needs
 
--- src/lpc.rt:28:24
 slice-read-tmp2 :
     tie.Need-slice-read-tmp2 Inv-loop μ-loop Inv-loop3 μ-loop3 Inv-loop4 μ-loop4 Inv-loop2 μ-loop2
 slice-read-tmp2 c = search needs
 
--- src/lpc.rt:29:13
 mul-lpc-3 :
     tie.Need-mul-lpc-3 Inv-loop μ-loop Inv-loop3 μ-loop3 Inv-loop4 μ-loop4 Inv-loop2 μ-loop2
 mul-lpc-3 c = search needs
 
--- src/lpc.rt:29:13
 slice-write-lpc-3 :
     tie.Need-slice-write-lpc-3
     Inv-loop
@@ -265,21 +225,17 @@ slice-write-lpc-3 :
     μ-loop2
 slice-write-lpc-3 c = search needs
 
--- src/lpc.rt:30:17
 sub-lpc : tie.Need-sub-lpc Inv-loop μ-loop Inv-loop3 μ-loop3 Inv-loop4 μ-loop4 Inv-loop2 μ-loop2
 sub-lpc c = search needs
 
--- src/lpc.rt:30:17
 sub-lpc-2 :
     tie.Need-sub-lpc-2 Inv-loop μ-loop Inv-loop3 μ-loop3 Inv-loop4 μ-loop4 Inv-loop2 μ-loop2
 sub-lpc-2 c = search needs
 
--- src/lpc.rt:30:13
 mul-lpc-4 :
     tie.Need-mul-lpc-4 Inv-loop μ-loop Inv-loop3 μ-loop3 Inv-loop4 μ-loop4 Inv-loop2 μ-loop2
 mul-lpc-4 c = search needs
 
--- src/lpc.rt:30:13
 slice-write-lpc-4 :
     tie.Need-slice-write-lpc-4
     Inv-loop
@@ -292,21 +248,17 @@ slice-write-lpc-4 :
     μ-loop2
 slice-write-lpc-4 c = simp length-set (omega arith)
 
--- src/lpc.rt:26:13
 add-j-2 : tie.Need-add-j-2 Inv-loop μ-loop Inv-loop3 μ-loop3 Inv-loop4 μ-loop4 Inv-loop2 μ-loop2
 add-j-2 c = search needs
 
--- src/lpc.rt:26:9
 loop4-less :
     tie.Need-loop4-less Inv-loop μ-loop Inv-loop3 μ-loop3 Inv-loop4 μ-loop4 Inv-loop2 μ-loop2
 loop4-less c = search needs
 
--- src/lpc.rt:26:9
 loop4-again :
     tie.Need-loop4-again Inv-loop μ-loop Inv-loop3 μ-loop3 Inv-loop4 μ-loop4 Inv-loop2 μ-loop2
 loop4-again c = (search needs, search needs, simp length-set (search needs), fold-more _ _ _ _ (c .before .before .before .loop4 .inv .3))
 
--- src/lpc.rt:33:28
 shared-slice-read-if2 :
     tie.Need-shared-slice-read-if2
     Inv-loop
@@ -319,16 +271,13 @@ shared-slice-read-if2 :
     μ-loop2
 shared-slice-read-if2 c = search needs
 
--- src/lpc.rt:18:9
 add-i : tie.Need-add-i Inv-loop μ-loop Inv-loop3 μ-loop3 Inv-loop4 μ-loop4 Inv-loop2 μ-loop2
 add-i c = search needs
 
--- src/lpc.rt:18:5
 loop2-less :
     tie.Need-loop2-less Inv-loop μ-loop Inv-loop3 μ-loop3 Inv-loop4 μ-loop4 Inv-loop2 μ-loop2
 loop2-less c = search needs
 
--- src/lpc.rt:18:5
 loop2-again :
     tie.Need-loop2-again Inv-loop μ-loop Inv-loop3 μ-loop3 Inv-loop4 μ-loop4 Inv-loop2 μ-loop2
 loop2-again c =
@@ -345,12 +294,10 @@ loop2-again c =
     ap (λ z. div binary32 (neg (add binary32 z (getD ac (h2 .i + 1) nan))) (h2 .error)) (h3 .inv .1 ∙ ap (backTo (h2 .lpc) ac (h2 .i)) e3) in
     (search needs, search needs, more ac (length (g .lpc .now)) (h2 .i) (h2 .lpc) (h4 .lpc) (h2 .error) r (h4 .j) _ (h2 .inv .2) er (h4 .inv .3) e4 (c .if2 .left))
 
--- src/lpc.rt:6:1
 same-length-2 :
     tie.Need-same-length-2 Inv-loop μ-loop Inv-loop3 μ-loop3 Inv-loop4 μ-loop4 Inv-loop2 μ-loop2
 same-length-2 c = search needs
 
--- src/lpc.rt:6:1
 returns-2 :
     tie.Need-returns-2 Inv-loop μ-loop Inv-loop3 μ-loop3 Inv-loop4 μ-loop4 Inv-loop2 μ-loop2
 unfolding celtLpc
@@ -360,12 +307,10 @@ returns-2 c =
     let e : length (a .lpc .now) ≡ h2 .i = search needs in
     sym (pick-false _ _ _ (c .before .before .if1 .left) ∙ ap (λ z. lpcTo (a .ac .now) (length (a .lpc .now)) z .lpc) e ∙ ap (λ z. z .lpc) (h2 .inv .2))
 
--- src/lpc.rt:6:1
 same-length-3 :
     tie.Need-same-length-3 Inv-loop μ-loop Inv-loop3 μ-loop3 Inv-loop4 μ-loop4 Inv-loop2 μ-loop2
 same-length-3 c = search needs
 
--- src/lpc.rt:6:1
 returns-3 :
     tie.Need-returns-3 Inv-loop μ-loop Inv-loop3 μ-loop3 Inv-loop4 μ-loop4 Inv-loop2 μ-loop2
 unfolding celtLpc

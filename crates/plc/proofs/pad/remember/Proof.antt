@@ -1,18 +1,13 @@
-use mathlib.Core.Path.{_≡_, refl, ap, _∙_, sym}
-use mathlib.Core.List.{List, [], _∷_, _++_}
-use mathlib.Core.Logic.{⊎-elim}
-use Prim.Native.Nat.{ℕ, zero, suc, _+_, _≤_, _<_, _-_}
+-- The places passed of the memory are written.
+use mathlib.Core.Path.{_≡_}
+use Prim.Native.Nat.{ℕ, _≤_, _<_, _-_}
 use native.Mathlib.Omega.{arith}
-use native.Mathlib.Numerals.{add-one}
-use lib.ListN.{length, getD, set, take, drop, length-set}
+use lib.ListN.{length, getD, length-set}
 use borrow.Author.Needs.{needs}
-use lib.Ieee.{Float, nan}
-use Rattle.plc.specs.Pad.{Remembers}
+use lib.Ieee.{nan}
 use Rattle.plc.proofs.Taps.{remember-more}
 use Rattle.plc.proofs.pad.remember.Statement.{statement}
 use Rattle.plc.proofs.pad.remember.Tie as tie
-use Rattle.plc.proofs.pad.remember.Reads as reads
-use Rattle.plc.proofs.pad.remember.Lts as lts
 
 abbrev Inv-loop : tie.InvT-loop
 Inv-loop pad₀ mem ord k₀ pad k = (k ≤ ord) × (length pad ≡ length pad₀) × ((i : ℕ) → i < k → getD pad (23 - i) nan ≡ getD mem i nan)
@@ -20,49 +15,38 @@ Inv-loop pad₀ mem ord k₀ pad k = (k ≤ ord) × (length pad ≡ length pad�
 abbrev μ-loop : tie.MeasureT-loop
 μ-loop pad₀ mem ord k₀ pad k = ord - k
 
--- src/pad.rt:13:5
 loop-holds : tie.Need-loop-holds Inv-loop μ-loop
 loop-holds c = (search needs, search needs, λ i h. let z : ⊥ = omega arith in absurd z)
 
--- src/pad.rt:14:23
 mul-pad : tie.Need-mul-pad Inv-loop μ-loop
 mul-pad c = search needs
 
--- src/pad.rt:14:23
 shared-slice-read-pad : tie.Need-shared-slice-read-pad Inv-loop μ-loop
 shared-slice-read-pad c = search needs
 
--- src/pad.rt:14:13
 sub-pad : tie.Need-sub-pad Inv-loop μ-loop
 sub-pad c = search needs
 
--- src/pad.rt:14:9
 mul-pad-2 : tie.Need-mul-pad-2 Inv-loop μ-loop
 mul-pad-2 c = search needs
 
--- src/pad.rt:14:9
 slice-write-pad : tie.Need-slice-write-pad Inv-loop μ-loop
 slice-write-pad c = search needs
 
--- src/pad.rt:13:9
 add-k : tie.Need-add-k Inv-loop μ-loop
 add-k c = search needs
 
--- src/pad.rt:13:5
 loop-less : tie.Need-loop-less Inv-loop μ-loop
 loop-less c = search needs
 
--- src/pad.rt:13:5
 loop-again : tie.Need-loop-again Inv-loop μ-loop
 loop-again c = let h = c .before .before .loop in
     let a = c .before .before .before .args in
     (search needs, simp length-set (search needs), remember-more (a .mem .now) (h .pad) (h .k) (h .inv .2) (search needs) (search needs))
 
--- src/pad.rt:8:1
 same-length : tie.Need-same-length Inv-loop μ-loop
 same-length c = search needs
 
--- src/pad.rt:8:1
 returns : tie.Need-returns Inv-loop μ-loop
 returns c = let h = c .before .loop in
     let e : length (c .before .before .args .mem .now) ≡ h .k = search needs in
