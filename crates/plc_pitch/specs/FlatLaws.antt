@@ -70,11 +70,11 @@ pub record Zero (v : Float) : Type 0 where
   pub sign : Bool
   pub is : v ≡ fin sign 0 (pos 0)
 
-zero-mul : (s t : Bool) → mul binary32 (fin s 0 (pos 0)) (fin t 0 (pos 0)) ≡ fin (unlike s t) 0 (pos 0)
+pub zero-mul : (s t : Bool) → mul binary32 (fin s 0 (pos 0)) (fin t 0 (pos 0)) ≡ fin (unlike s t) 0 (pos 0)
 unfolding mul
 zero-mul s t = refl
 
-zero-add : (t : Bool) → add binary32 zero32 (fin t 0 (pos 0)) ≡ zero32
+pub zero-add : (t : Bool) → add binary32 zero32 (fin t 0 (pos 0)) ≡ zero32
 unfolding add ofBits
 zero-add true = refl
 zero-add false = refl
@@ -105,7 +105,7 @@ silent y a =
     (λ i h. correlation-zero (drop 360 y) y 664 i (later Zero y a) (λ j k. a (i + j) (omega arith)))
 
 -- ---- NaN
-add-nan : (x : Float) → add binary32 x nan ≡ nan
+pub add-nan : (x : Float) → add binary32 x nan ≡ nan
 unfolding add
 add-nan nan = refl
 add-nan (inf s) = refl
