@@ -1,14 +1,14 @@
 -- Histories of 2,048 samples that are all zero, of either sign, or all NaN, stay so when downsampled: their lag is 720.
 use mathlib.Core.Path.{_≡_, refl, ap, _∙_, sym}
-use mathlib.Core.Bool.{Bool, true, false, not, cond, _&&_, true≢false}
+use mathlib.Core.Bool.{Bool, true, false, cond, _&&_, true≢false}
 use mathlib.Core.List.{List, [], _∷_}
-use Prim.Native.Nat.{ℕ, zero, suc, _+_, _*_, _-_, _≤_, _<_}
+use Prim.Native.Nat.{ℕ, zero, suc, _+_, _*_, _-_, _<_}
 use native.Mathlib.Omega.{arith}
 use lib.Dec.{ltb, eqb}
-use lib.IntN.{ℤ, pos, negsuc}
+use lib.IntN.{pos, negsuc}
 use lib.ListN.{length, getD, set, replicate}
 use lib.Ieee.{Float, nan, inf, fin, binary32, add, sub, mul, div, lt, eq, neg, ofBits, ofInt, unlike}
-use borrow.Author.Tests.{ltb-true, ltb-false, eqb-false}
+use borrow.Author.Tests.{ltb-true, eqb-false}
 use Rattle.loops.specs.Fold.{foldTo}
 use Rattle.loops.specs.Front.{tab, tab-same, getD-tab, length-tab}
 use Rattle.loops.specs.Sum.{sumTo}

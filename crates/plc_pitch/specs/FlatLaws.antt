@@ -1,17 +1,15 @@
 -- Histories with no pitch: samples that are all zero, of either sign, or all NaN, give offset 0 and so lag 720.
-use mathlib.Core.Path.{_≡_, refl, ap, _∙_, sym}
+use mathlib.Core.Path.{_≡_, refl, ap, _∙_}
 use mathlib.Core.Bool.{Bool, true, false, cond, _||_}
-use mathlib.Core.List.{List, [], _∷_}
-use Prim.Native.Nat.{ℕ, zero, suc, _+_, _*_, _-_, _≤_, _<_}
-use native.Mathlib.Numerals.{add-one}
+use mathlib.Core.List.{List}
+use Prim.Native.Nat.{ℕ, _+_, _*_, _<_}
 use native.Mathlib.Omega.{arith}
-use lib.Dec.{ltb, eqb}
 use lib.IntN.{pos}
-use lib.ListN.{length, getD, drop, replicate}
+use lib.ListN.{getD, drop}
 use lib.Seq.{getD-drop}
-use lib.Ieee.{Float, nan, inf, fin, Format, binary32, add, mul, lt, neg, isNan, ofBits, unlike}
+use lib.Ieee.{Float, nan, inf, fin, binary32, add, mul, lt, neg, isNan, ofBits, unlike}
 use Rattle.loops.specs.Fold.{fold-suc}
-use Rattle.loops.specs.Front.{tab, getD-tab}
+use Rattle.loops.specs.Front.{getD-tab}
 use Rattle.loops.specs.Sum.{sumTo}
 use Rattle.float_bits.specs.Extremes.{maxOf}
 use Rattle.plc_pitch.specs.Best.{zero32, minusOne, start}
