@@ -5,11 +5,11 @@ use mathlib.Core.List.{List}
 use Prim.Native.Nat.{ℕ, _+_, _*_, _-_, _≤_, _<_}
 use native.Mathlib.Nat.{add-assoc}
 use native.Mathlib.Omega.{arith}
-use lib.Dec.{leb, ltb, eqb}
+use lib.Dec.{leb}
 use lib.Ieee.{Float, nan, binary32, mul}
 use lib.ListN.{length, getD, take, drop}
 use lib.Seq.{getD-drop}
-use borrow.Author.Tests.{le-leb, lt-leb, leb-true, lt-ltb, le-ltb}
+use borrow.Author.Tests.{le-leb, lt-leb, leb-true, lt-ltb}
 use Rattle.loops.specs.Front.{tab, tab-same, getD-tab}
 use Rattle.loops.specs.Pick.{pick-true, pick-false}
 use Rattle.loops.specs.Sum.{sum-same}

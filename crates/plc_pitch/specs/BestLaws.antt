@@ -1,15 +1,15 @@
 -- What is known of the two best places, whatever the correlations are.
-use mathlib.Core.Path.{_≡_, refl, ap, _∙_, sym, subst}
+use mathlib.Core.Path.{_≡_, refl, _∙_}
 use mathlib.Core.Bool.{Bool, true, false, cond}
 use mathlib.Core.List.{List}
-use Prim.Native.Nat.{ℕ, zero, suc, _+_, _≤_, _<_}
+use Prim.Native.Nat.{ℕ, zero, suc, _<_}
 use native.Mathlib.Omega.{arith}
 use lib.ListN.{getD}
 use lib.Ieee.{Float, nan, binary32, mul, lt}
 use Rattle.loops.specs.Fold.{foldTo}
 use Rattle.loops.specs.Pick.{pick-false}
 use Rattle.plc_pitch.specs.declared.best.Best.{Best}
-use Rattle.plc_pitch.specs.Best.{zero32, taken, considered, Sweep, sweepTurn, sweepTo, start, findBestPitch}
+use Rattle.plc_pitch.specs.Best.{zero32, taken, considered, sweepTurn, sweepTo, start, findBestPitch}
 
 -- what holds at the start and is kept by each turn holds at the end
 pub fold-holds : {A : Type 0} (P : A → Type 0) (f : A → ℕ → A) (a : A) (n : ℕ) → P a → ((s : A) (i : ℕ) → i < n → P s → P (f s i)) → P (foldTo f a n)

@@ -1,17 +1,15 @@
 -- Histories with no pitch: samples that are all zero, of either sign, or all NaN, give offset 0 and so lag 720.
-use mathlib.Core.Path.{_≡_, refl, ap, _∙_, sym}
+use mathlib.Core.Path.{_≡_, refl, ap, _∙_}
 use mathlib.Core.Bool.{Bool, true, false, cond, _||_}
-use mathlib.Core.List.{List, [], _∷_}
-use Prim.Native.Nat.{ℕ, zero, suc, _+_, _*_, _-_, _≤_, _<_}
-use native.Mathlib.Numerals.{add-one}
+use mathlib.Core.List.{List}
+use Prim.Native.Nat.{ℕ, _+_, _*_, _<_}
 use native.Mathlib.Omega.{arith}
-use lib.Dec.{ltb, eqb}
 use lib.IntN.{pos}
-use lib.ListN.{length, getD, drop, replicate}
+use lib.ListN.{getD, drop}
 use lib.Seq.{getD-drop}
-use lib.Ieee.{Float, nan, inf, fin, Format, binary32, add, mul, lt, neg, isNan, ofBits, unlike}
+use lib.Ieee.{Float, nan, inf, fin, binary32, add, mul, lt, neg, isNan, ofBits, unlike}
 use Rattle.loops.specs.Fold.{fold-suc}
-use Rattle.loops.specs.Front.{tab, getD-tab}
+use Rattle.loops.specs.Front.{getD-tab}
 use Rattle.loops.specs.Sum.{sumTo}
 use Rattle.float_bits.specs.Extremes.{maxOf}
 use Rattle.plc_pitch.specs.Best.{zero32, minusOne, start}
@@ -70,11 +68,11 @@ pub record Zero (v : Float) : Type 0 where
   pub sign : Bool
   pub is : v ≡ fin sign 0 (pos 0)
 
-zero-mul : (s t : Bool) → mul binary32 (fin s 0 (pos 0)) (fin t 0 (pos 0)) ≡ fin (unlike s t) 0 (pos 0)
+pub zero-mul : (s t : Bool) → mul binary32 (fin s 0 (pos 0)) (fin t 0 (pos 0)) ≡ fin (unlike s t) 0 (pos 0)
 unfolding mul
 zero-mul s t = refl
 
-zero-add : (t : Bool) → add binary32 zero32 (fin t 0 (pos 0)) ≡ zero32
+pub zero-add : (t : Bool) → add binary32 zero32 (fin t 0 (pos 0)) ≡ zero32
 unfolding add ofBits
 zero-add true = refl
 zero-add false = refl
@@ -105,7 +103,7 @@ silent y a =
     (λ i h. correlation-zero (drop 360 y) y 664 i (later Zero y a) (λ j k. a (i + j) (omega arith)))
 
 -- ---- NaN
-add-nan : (x : Float) → add binary32 x nan ≡ nan
+pub add-nan : (x : Float) → add binary32 x nan ≡ nan
 unfolding add
 add-nan nan = refl
 add-nan (inf s) = refl

@@ -6,4 +6,5 @@ pub mod SearchLaws
 pub mod FlatLaws
 pub mod LagWindow
 pub mod Downsample
+pub mod FlatHistory
 pub mod Rows

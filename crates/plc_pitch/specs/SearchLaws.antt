@@ -1,23 +1,17 @@
 -- What is known of a found offset, whatever the samples are.
-use mathlib.Core.Path.{_≡_, refl, ap, _∙_, sym}
+use mathlib.Core.Path.{_≡_, refl, ap, _∙_}
 use mathlib.Core.Bool.{Bool, true, false, cond, _&&_}
 use mathlib.Core.List.{List}
-use Prim.Native.Nat.{ℕ, zero, suc, _+_, _*_, _-_, _≤_, _<_}
+use Prim.Native.Nat.{ℕ, _+_, _*_, _-_, _≤_, _<_}
 use native.Mathlib.Omega.{arith}
 use lib.Dec.{ltb}
-use lib.IntN.{pos}
-use lib.ListN.{length, getD, drop}
-use lib.Seq.{getD-drop}
-use lib.Ieee.{Float, nan, inf, fin, Format, binary32, add, sub, mul, lt, neg, isNan, ofBits}
+use lib.ListN.{getD}
+use lib.Ieee.{Float, nan, binary32, add, sub, mul, lt, neg, isNan, ofBits}
 use borrow.Author.Tests.{ltb-true}
-use Rattle.loops.specs.Fold.{foldTo, fold-suc}
-use Rattle.loops.specs.Front.{tab, getD-tab}
-use Rattle.loops.specs.Sum.{sumTo}
 use Rattle.float_bits.specs.Extremes.{maxOf}
-use Rattle.plc_pitch.specs.declared.best.Best.{Best}
-use Rattle.plc_pitch.specs.Best.{zero32, one32, minusOne, nextEnergy, start}
-use Rattle.plc_pitch.specs.BestLaws.{fold-holds, Within, best-within, none-positive}
-use Rattle.plc_pitch.specs.Search.{everySecond, crossSum, correlation, near, fineAt, coarse, fine, coarseBest, fineBest, seven-tenths, interpolated, refined, pitchSearch}
+use Rattle.plc_pitch.specs.Best.{one32, minusOne, nextEnergy}
+use Rattle.plc_pitch.specs.BestLaws.{best-within}
+use Rattle.plc_pitch.specs.Search.{crossSum, correlation, fine, coarseBest, fineBest, seven-tenths, interpolated, refined, pitchSearch}
 
 -- ---- the found offset is from 0 to 618
 

@@ -1,17 +1,10 @@
 use Rattle.loops.specs.Sum.{sum-none, sum-more}
 use Rattle.plc_pitch.specs.Best.{energyTo}
-use mathlib.Core.Path.{_≡_, refl, ap, _∙_, sym}
-use mathlib.Core.List.{List, [], _∷_, _++_}
-use mathlib.Core.Logic.{⊎-elim}
-use Prim.Native.Nat.{ℕ, zero, suc, _+_, _≤_, _<_, _-_}
-use native.Mathlib.Omega.{arith}
-use native.Mathlib.Numerals.{add-one}
-use lib.ListN.{length, getD, set, take, drop, length-set}
+use mathlib.Core.Path.{_≡_, ap, _∙_, sym}
+use Prim.Native.Nat.{_≤_, _-_}
 use borrow.Author.Needs.{needs}
 use Rattle.plc_pitch.proofs.best.energy.Statement.{statement}
 use Rattle.plc_pitch.proofs.best.energy.Tie as tie
-use Rattle.plc_pitch.proofs.best.energy.Reads as reads
-use Rattle.plc_pitch.proofs.best.energy.Lts as lts
 
 abbrev Inv-loop : tie.InvT-loop
 Inv-loop y len syy₀ i₀ syy i =
@@ -21,35 +14,28 @@ abbrev μ-loop : tie.MeasureT-loop
 μ-loop y len syy₀ i₀ syy i =
     len - i
 
--- src/best.rt:66:5
 loop-holds : tie.Need-loop-holds Inv-loop μ-loop
 unfolding energyTo
 loop-holds c =
     (search needs, sym (sum-none _ _ _))
 
--- src/best.rt:67:17
 mul-v : tie.Need-mul-v Inv-loop μ-loop
 mul-v c = search needs
 
--- src/best.rt:67:17
 shared-slice-read-v : tie.Need-shared-slice-read-v Inv-loop μ-loop
 shared-slice-read-v c = search needs
 
--- src/best.rt:66:9
 add-i : tie.Need-add-i Inv-loop μ-loop
 add-i c = search needs
 
--- src/best.rt:66:5
 loop-less : tie.Need-loop-less Inv-loop μ-loop
 loop-less c = search needs
 
--- src/best.rt:66:5
 loop-again : tie.Need-loop-again Inv-loop μ-loop
 unfolding energyTo
 loop-again c =
     (search needs, sum-more _ _ _ _ _ (c .before .before .loop .inv .1))
 
--- src/best.rt:61:1
 returns : tie.Need-returns Inv-loop μ-loop
 returns c =
     let e : c .before .loop .i ≡ c .before .before .args .len = search needs in

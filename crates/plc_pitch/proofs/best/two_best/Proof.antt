@@ -1,20 +1,10 @@
 use Rattle.plc_pitch.specs.Best.{sweepTo, findBestPitch, nextEnergy}
 use Rattle.plc_pitch.proofs.Turn.{sweep, sweep-none, sweep-more}
-use mathlib.Core.Path.{_≡_, refl, ap, _∙_, sym}
-use mathlib.Core.List.{List, [], _∷_, _++_}
-use mathlib.Core.Logic.{⊎-elim}
-use Prim.Native.Nat.{ℕ, zero, suc, _+_, _≤_, _<_, _-_}
-use native.Mathlib.Omega.{arith}
-use native.Mathlib.Numerals.{add-one}
-use lib.ListN.{length, getD, set, take, drop, length-set}
+use mathlib.Core.Path.{_≡_, ap, _∙_, sym}
+use Prim.Native.Nat.{_≤_, _-_}
 use borrow.Author.Needs.{needs}
 use Rattle.plc_pitch.proofs.best.two_best.Statement.{statement}
 use Rattle.plc_pitch.proofs.best.two_best.Tie as tie
-use Rattle.plc_pitch.proofs.best.two_best.Reads as reads
-use Rattle.plc_pitch.proofs.best.two_best.Lts as lts
-use Rattle.float_bits.proofs.extremes.max_f32.Reads as max-f32-reads
-use Rattle.plc_pitch.proofs.best.consider.Reads as consider-reads
-use Rattle.plc_pitch.proofs.best.energy.Reads as energy-reads
 
 abbrev Inv-loop : tie.InvT-loop
 Inv-loop xcorr y len max-pitch best₀ syy₀ i₀ best syy i =
@@ -24,67 +14,52 @@ abbrev μ-loop : tie.MeasureT-loop
 μ-loop xcorr y len max-pitch best₀ syy₀ i₀ best syy i =
     max-pitch - i
 
--- src/best.rt:85:9
 energy-requires : tie.Need-energy-requires Inv-loop μ-loop
 energy-requires c κs = search needs
 
--- src/best.rt:86:5
 loop-holds : tie.Need-loop-holds Inv-loop μ-loop
 loop-holds c =
     (search needs, sweep-none _ _ _ _ (c .energy .ensures))
 
--- src/best.rt:87:31
 mul-consider : tie.Need-mul-consider Inv-loop μ-loop
 mul-consider c = search needs
 
--- src/best.rt:87:31
 shared-slice-read-consider : tie.Need-shared-slice-read-consider Inv-loop μ-loop
 shared-slice-read-consider c = search needs
 
--- src/best.rt:87:9
 consider-requires : tie.Need-consider-requires Inv-loop μ-loop
 consider-requires c κs = search needs
 
--- src/best.rt:88:24
 add-newest : tie.Need-add-newest Inv-loop μ-loop
 add-newest c = search needs
 
--- src/best.rt:88:22
 mul-newest : tie.Need-mul-newest Inv-loop μ-loop
 mul-newest c = search needs
 
--- src/best.rt:88:22
 shared-slice-read-newest : tie.Need-shared-slice-read-newest Inv-loop μ-loop
 shared-slice-read-newest c = search needs
 
--- src/best.rt:89:22
 mul-oldest : tie.Need-mul-oldest Inv-loop μ-loop
 mul-oldest c = search needs
 
--- src/best.rt:89:22
 shared-slice-read-oldest : tie.Need-shared-slice-read-oldest Inv-loop μ-loop
 shared-slice-read-oldest c = search needs
 
--- src/best.rt:90:9
 max-f32-requires : tie.Need-max-f32-requires Inv-loop μ-loop
 max-f32-requires c κs = search needs
 
--- src/best.rt:86:9
 add-i : tie.Need-add-i Inv-loop μ-loop
 add-i c = search needs
 
--- src/best.rt:86:5
 loop-less : tie.Need-loop-less Inv-loop μ-loop
 loop-less c = search needs
 
--- src/best.rt:86:5
 loop-again : tie.Need-loop-again Inv-loop μ-loop
 unfolding nextEnergy
 loop-again c =
     let l = c .before .before .before .before .before .before .loop in
     (search needs, sweep-more _ _ _ _ _ _ _ _ (l .inv .1) (c .before .before .before .consider .ensures) (c .max-f32 .ensures))
 
--- src/best.rt:73:1
 returns : tie.Need-returns Inv-loop μ-loop
 unfolding findBestPitch
 returns c =

@@ -4,17 +4,11 @@ use Rattle.loops.specs.Front.{front, tab, tab-none, tab-more, tab-read, tab-all
 use Rattle.plc_pitch.specs.Downsample.{dampingTo, damped}
 use lib.Ieee.{nan, binary32, mul}
 use mathlib.Core.Path.{_≡_, refl, ap, _∙_, sym}
-use mathlib.Core.List.{List, [], _∷_, _++_}
-use mathlib.Core.Logic.{⊎-elim}
-use Prim.Native.Nat.{ℕ, zero, suc, _+_, _≤_, _<_, _-_}
-use native.Mathlib.Omega.{arith}
-use native.Mathlib.Numerals.{add-one}
-use lib.ListN.{length, getD, set, take, drop, length-set}
+use Prim.Native.Nat.{ℕ, _+_, _≤_, _<_, _-_}
+use lib.ListN.{length, getD, length-set}
 use borrow.Author.Needs.{needs}
 use Rattle.plc_pitch.proofs.downsample.damp.Statement.{statement}
 use Rattle.plc_pitch.proofs.downsample.damp.Tie as tie
-use Rattle.plc_pitch.proofs.downsample.damp.Reads as reads
-use Rattle.plc_pitch.proofs.downsample.damp.Lts as lts
 
 abbrev Inv-loop : tie.InvT-loop
 Inv-loop lpc₀ n factor₀ k₀ lpc factor k =
@@ -24,37 +18,29 @@ abbrev μ-loop : tie.MeasureT-loop
 μ-loop lpc₀ n factor₀ k₀ lpc factor k =
     n - k
 
--- src/downsample.rt:46:5
 loop-holds : tie.Need-loop-holds Inv-loop μ-loop
 unfolding dampingTo
 loop-holds c =
     (search needs, refl, refl, sym (fold-none _ _), tab-none _ _)
 
--- src/downsample.rt:48:18
 mul-lpc : tie.Need-mul-lpc Inv-loop μ-loop
 mul-lpc c = search needs
 
--- src/downsample.rt:48:18
 slice-read-lpc : tie.Need-slice-read-lpc Inv-loop μ-loop
 slice-read-lpc c = search needs
 
--- src/downsample.rt:48:9
 mul-lpc-2 : tie.Need-mul-lpc-2 Inv-loop μ-loop
 mul-lpc-2 c = search needs
 
--- src/downsample.rt:48:9
 slice-write-lpc : tie.Need-slice-write-lpc Inv-loop μ-loop
 slice-write-lpc c = search needs
 
--- src/downsample.rt:46:9
 add-k : tie.Need-add-k Inv-loop μ-loop
 add-k c = search needs
 
--- src/downsample.rt:46:5
 loop-less : tie.Need-loop-less Inv-loop μ-loop
 loop-less c = search needs
 
--- src/downsample.rt:46:5
 loop-again : tie.Need-loop-again Inv-loop μ-loop
 unfolding dampingTo
 loop-again c =
@@ -70,11 +56,9 @@ loop-again c =
           (ap (λ z. mul binary32 z (mul binary32 (l .factor) damping)) (tab-read _ nan _ _ _ (l .inv .4) h) ∙ ap (mul binary32 (getD (a .lpc .now) (l .k) nan)) f) h,
     )
 
--- src/downsample.rt:41:1
 same-length : tie.Need-same-length Inv-loop μ-loop
 same-length c = search needs
 
--- src/downsample.rt:41:1
 returns : tie.Need-returns Inv-loop μ-loop
 unfolding damped
 returns c =

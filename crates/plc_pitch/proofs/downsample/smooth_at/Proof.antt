@@ -1,78 +1,55 @@
 use Rattle.plc_pitch.specs.Downsample.{smoothedAt}
 use Rattle.loops.specs.Pick.{pick-true, pick-false}
 use borrow.Author.Tests.{eq-eqb, ne-eqb}
-use mathlib.Core.Path.{_≡_, refl, ap, _∙_, sym}
-use mathlib.Core.List.{List, [], _∷_, _++_}
-use mathlib.Core.Logic.{⊎-elim}
-use Prim.Native.Nat.{ℕ, zero, suc, _+_, _≤_, _<_, _-_}
-use native.Mathlib.Omega.{arith}
-use native.Mathlib.Numerals.{add-one}
-use lib.ListN.{length, getD, set, take, drop, length-set}
+use mathlib.Core.Path.{sym}
 use borrow.Author.Needs.{needs}
 use Rattle.plc_pitch.proofs.downsample.smooth_at.Statement.{statement}
 use Rattle.plc_pitch.proofs.downsample.smooth_at.Tie as tie
-use Rattle.plc_pitch.proofs.downsample.smooth_at.Reads as reads
-use Rattle.plc_pitch.proofs.downsample.smooth_at.Lts as lts
 
--- src/downsample.rt:17:29
 shared-slice-read-result : tie.Need-shared-slice-read-result
 shared-slice-read-result c = search needs
 
--- src/downsample.rt:17:36
 shared-slice-read-result-2 : tie.Need-shared-slice-read-result-2
 shared-slice-read-result-2 c = search needs
 
--- src/downsample.rt:17:9
 returns : tie.Need-returns
 unfolding smoothedAt
 returns c =
     sym (pick-true _ _ _ (eq-eqb _ _ (c .before .before .if1 .taken)))
 
--- src/downsample.rt:19:21
 mul-result : tie.Need-mul-result
 mul-result c = search needs
 
--- src/downsample.rt:19:21
 sub-result : tie.Need-sub-result
 sub-result c = search needs
 
--- src/downsample.rt:19:19
 mul-result-2 : tie.Need-mul-result-2
 mul-result-2 c = search needs
 
--- src/downsample.rt:19:19
 shared-slice-read-result-3 : tie.Need-shared-slice-read-result-3
 shared-slice-read-result-3 c = search needs
 
--- src/downsample.rt:19:36
 mul-result-3 : tie.Need-mul-result-3
 mul-result-3 c = search needs
 
--- src/downsample.rt:19:36
 add-result : tie.Need-add-result
 add-result c = search needs
 
--- src/downsample.rt:19:34
 mul-result-4 : tie.Need-mul-result-4
 mul-result-4 c = search needs
 
--- src/downsample.rt:19:34
 shared-slice-read-result-4 : tie.Need-shared-slice-read-result-4
 shared-slice-read-result-4 c = search needs
 
--- src/downsample.rt:19:52
 mul-result-5 : tie.Need-mul-result-5
 mul-result-5 c = search needs
 
--- src/downsample.rt:19:50
 mul-result-6 : tie.Need-mul-result-6
 mul-result-6 c = search needs
 
--- src/downsample.rt:19:50
 shared-slice-read-result-5 : tie.Need-shared-slice-read-result-5
 shared-slice-read-result-5 c = search needs
 
--- src/downsample.rt:12:1
 returns-2 : tie.Need-returns-2
 unfolding smoothedAt
 returns-2 c =

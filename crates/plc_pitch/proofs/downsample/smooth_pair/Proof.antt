@@ -1,20 +1,13 @@
 use lib.Ieee.{binary32, add}
 use Rattle.loops.specs.Front.{front, tab, tab-none, tab-more, tab-all}
-use Rattle.plc_pitch.specs.Downsample.{smoothedAt, smoothed, smoothedPair}
+use Rattle.plc_pitch.specs.Downsample.{smoothedAt, smoothedPair}
 use lib.Ieee.{nan}
-use mathlib.Core.Path.{_≡_, refl, ap, _∙_, sym}
-use mathlib.Core.List.{List, [], _∷_, _++_}
-use mathlib.Core.Logic.{⊎-elim}
-use Prim.Native.Nat.{ℕ, zero, suc, _+_, _≤_, _<_, _-_}
-use native.Mathlib.Omega.{arith}
-use native.Mathlib.Numerals.{add-one}
-use lib.ListN.{length, getD, set, take, drop, length-set}
+use mathlib.Core.Path.{_≡_, refl, ap, _∙_}
+use Prim.Native.Nat.{ℕ, _≤_, _-_}
+use lib.ListN.{length, length-set}
 use borrow.Author.Needs.{needs}
 use Rattle.plc_pitch.proofs.downsample.smooth_pair.Statement.{statement}
 use Rattle.plc_pitch.proofs.downsample.smooth_pair.Tie as tie
-use Rattle.plc_pitch.proofs.downsample.smooth_pair.Reads as reads
-use Rattle.plc_pitch.proofs.downsample.smooth_pair.Lts as lts
-use Rattle.plc_pitch.proofs.downsample.smooth_at.Reads as smooth-at-reads
 
 abbrev Inv-loop : tie.InvT-loop
 Inv-loop x0 x1 x-lp₀ i₀ x-lp i =
@@ -24,36 +17,28 @@ abbrev μ-loop : tie.MeasureT-loop
 μ-loop x0 x1 x-lp₀ i₀ x-lp i =
     1024 - i
 
--- src/downsample.rt:35:5
 loop-holds : tie.Need-loop-holds Inv-loop μ-loop
 loop-holds c =
     (search needs, refl, tab-none _ _)
 
--- src/downsample.rt:36:19
 smooth-at-requires : tie.Need-smooth-at-requires Inv-loop μ-loop
 smooth-at-requires c κs = search needs
 
--- src/downsample.rt:36:38
 smooth-at-requires-2 : tie.Need-smooth-at-requires-2 Inv-loop μ-loop
 smooth-at-requires-2 c κs = search needs
 
--- src/downsample.rt:36:9
 mul-x-lp : tie.Need-mul-x-lp Inv-loop μ-loop
 mul-x-lp c = search needs
 
--- src/downsample.rt:36:9
 slice-write-x-lp : tie.Need-slice-write-x-lp Inv-loop μ-loop
 slice-write-x-lp c = search needs
 
--- src/downsample.rt:35:9
 add-i : tie.Need-add-i Inv-loop μ-loop
 add-i c = search needs
 
--- src/downsample.rt:35:5
 loop-less : tie.Need-loop-less Inv-loop μ-loop
 loop-less c = search needs
 
--- src/downsample.rt:35:5
 loop-again : tie.Need-loop-again Inv-loop μ-loop
 loop-again c =
     let l = c .before .before .before .loop in
@@ -64,11 +49,9 @@ loop-again c =
           (ap (λ z. add binary32 z (c .smooth-at2 .result)) (c .before .smooth-at .ensures) ∙ ap (add binary32 (smoothedAt (a .x0 .now) (l .i))) (c .smooth-at2 .ensures)) (search needs),
     )
 
--- src/downsample.rt:31:1
 same-length : tie.Need-same-length Inv-loop μ-loop
 same-length c = search needs
 
--- src/downsample.rt:31:1
 returns : tie.Need-returns Inv-loop μ-loop
 unfolding smoothedPair
 returns c =

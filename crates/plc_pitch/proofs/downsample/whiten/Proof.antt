@@ -1,61 +1,38 @@
 use Rattle.plc_pitch.proofs.Whiten.{whiten-done}
-use mathlib.Core.Path.{_≡_, refl, ap, _∙_, sym}
-use mathlib.Core.List.{List, [], _∷_, _++_}
-use mathlib.Core.Logic.{⊎-elim}
-use Prim.Native.Nat.{ℕ, zero, suc, _+_, _≤_, _<_, _-_}
-use native.Mathlib.Omega.{arith}
-use native.Mathlib.Numerals.{add-one}
-use lib.ListN.{length, getD, set, take, drop, length-set}
 use borrow.Author.Needs.{needs}
 use Rattle.plc_pitch.proofs.downsample.whiten.Statement.{statement}
 use Rattle.plc_pitch.proofs.downsample.whiten.Tie as tie
-use Rattle.plc_pitch.proofs.downsample.whiten.Reads as reads
-use Rattle.plc_pitch.proofs.downsample.whiten.Lts as lts
-use Rattle.plc.proofs.fir.celt_fir_inplace.Reads as celt-fir-inplace-reads
-use Rattle.plc_pitch.proofs.downsample.copy.Reads as copy-reads
-use Rattle.plc_pitch.proofs.downsample.whitening.Reads as whitening-reads
 
--- src/downsample.rt:78:16
 slice-aggregate-copy : tie.Need-slice-aggregate-copy
 slice-aggregate-copy c = search needs
 
--- src/downsample.rt:78:5
 copy-requires : tie.Need-copy-requires
 copy-requires c κs = search needs
 
--- src/downsample.rt:79:15
 whitening-requires : tie.Need-whitening-requires
 whitening-requires c κs = search needs
 
--- src/downsample.rt:81:38
 slice-aggregate-celt-fir-inplace : tie.Need-slice-aggregate-celt-fir-inplace
 slice-aggregate-celt-fir-inplace c = search needs
 
--- src/downsample.rt:81:44
 slice-aggregate-celt-fir-inplace-2 : tie.Need-slice-aggregate-celt-fir-inplace-2
 slice-aggregate-celt-fir-inplace-2 c = search needs
 
--- src/downsample.rt:81:5
 celt-fir-inplace-requires : tie.Need-celt-fir-inplace-requires
 celt-fir-inplace-requires c κs = search needs
 
--- src/downsample.rt:84:38
 slice-aggregate-celt-fir-inplace-3 : tie.Need-slice-aggregate-celt-fir-inplace-3
 slice-aggregate-celt-fir-inplace-3 c = search needs
 
--- src/downsample.rt:84:45
 slice-aggregate-celt-fir-inplace-4 : tie.Need-slice-aggregate-celt-fir-inplace-4
 slice-aggregate-celt-fir-inplace-4 c = search needs
 
--- src/downsample.rt:84:5
 celt-fir-inplace-requires-2 : tie.Need-celt-fir-inplace-requires-2
 celt-fir-inplace-requires-2 c κs = search needs
 
--- src/downsample.rt:73:1
 same-length : tie.Need-same-length
 same-length c = search needs
 
--- src/downsample.rt:73:1
 returns : tie.Need-returns
 returns c =
     let f = c .before .before .before .before .before .before .before .before in

@@ -3,18 +3,11 @@ use Rattle.plc_pitch.specs.LagWindow.{lagged, lagWindow}
 use borrow.Author.Tests.{le-leb, lt-leb}
 use lib.Ieee.{nan}
 use mathlib.Core.Path.{_≡_, refl, ap, _∙_, sym}
-use mathlib.Core.List.{List, [], _∷_, _++_}
-use mathlib.Core.Logic.{⊎-elim}
-use Prim.Native.Nat.{ℕ, zero, suc, _+_, _≤_, _<_, _-_}
-use native.Mathlib.Omega.{arith}
-use native.Mathlib.Numerals.{add-one}
-use lib.ListN.{length, getD, set, take, drop, length-set}
+use Prim.Native.Nat.{ℕ, _≤_, _<_, _-_}
+use lib.ListN.{length, getD, length-set}
 use borrow.Author.Needs.{needs}
 use Rattle.plc_pitch.proofs.lag_window.lag_window.Statement.{statement}
 use Rattle.plc_pitch.proofs.lag_window.lag_window.Tie as tie
-use Rattle.plc_pitch.proofs.lag_window.lag_window.Reads as reads
-use Rattle.plc_pitch.proofs.lag_window.lag_window.Lts as lts
-use Rattle.plc_pitch.proofs.lag_window.lag_value.Reads as lag-value-reads
 
 abbrev Inv-loop : tie.InvT-loop
 Inv-loop ac₀ n i₀ ac i =
@@ -24,56 +17,44 @@ abbrev μ-loop : tie.MeasureT-loop
 μ-loop ac₀ n i₀ ac i =
     n - i
 
--- src/lag_window.rt:27:9
 returns : tie.Need-returns Inv-loop μ-loop
 returns c =
     (sym (lt-leb _ 65536 (c .if1 .taken)), refl)
 
--- src/lag_window.rt:29:5
 loop-holds : tie.Need-loop-holds Inv-loop μ-loop
 loop-holds c =
     (search needs, refl, refl, tab-none _ _)
 
--- src/lag_window.rt:30:27
 mul-lag-value : tie.Need-mul-lag-value Inv-loop μ-loop
 mul-lag-value c = search needs
 
--- src/lag_window.rt:30:27
 slice-read-lag-value : tie.Need-slice-read-lag-value Inv-loop μ-loop
 slice-read-lag-value c = search needs
 
--- src/lag_window.rt:30:17
 lag-value-requires : tie.Need-lag-value-requires Inv-loop μ-loop
 lag-value-requires c κs = search needs
 
--- src/lag_window.rt:30:9
 mul-ac : tie.Need-mul-ac Inv-loop μ-loop
 mul-ac c = search needs
 
--- src/lag_window.rt:30:9
 slice-write-ac : tie.Need-slice-write-ac Inv-loop μ-loop
 slice-write-ac c = search needs
 
--- src/lag_window.rt:29:9
 add-i : tie.Need-add-i Inv-loop μ-loop
 add-i c = search needs
 
--- src/lag_window.rt:29:5
 loop-less : tie.Need-loop-less Inv-loop μ-loop
 loop-less c = search needs
 
--- src/lag_window.rt:29:5
 loop-again : tie.Need-loop-again Inv-loop μ-loop
 loop-again c =
     let l = c .before .before .before .loop in
     let h : l .i < length (c .before .before .before .before .before .before .args .ac .now) = search needs in
     (search needs, search needs, simp length-set (l .inv .2), tab-more _ nan _ _ _ (l .inv .3) _ (c .lag-value .ensures ∙ ap (λ z. lagged z (l .i)) (tab-read _ nan _ _ _ (l .inv .3) h)) h)
 
--- src/lag_window.rt:22:1
 same-length : tie.Need-same-length Inv-loop μ-loop
 same-length c = search needs
 
--- src/lag_window.rt:22:1
 returns-2 : tie.Need-returns-2 Inv-loop μ-loop
 unfolding lagWindow
 returns-2 c =

@@ -1,17 +1,12 @@
 use Rattle.loops.specs.Front.{front, tab, tab-none, tab-more, tab-all, tab-read}
 use lib.Ieee.{Float, nan, binary32, add, mul}
-use mathlib.Core.Path.{_≡_, refl, ap, _∙_, sym}
-use mathlib.Core.List.{List, [], _∷_, _++_}
-use mathlib.Core.Logic.{⊎-elim}
-use Prim.Native.Nat.{ℕ, zero, suc, _+_, _≤_, _<_, _-_}
-use native.Mathlib.Omega.{arith}
-use native.Mathlib.Numerals.{add-one}
-use lib.ListN.{length, getD, set, take, drop, length-set}
+use mathlib.Core.Path.{_≡_, refl, ap}
+use mathlib.Core.List.{List}
+use Prim.Native.Nat.{ℕ, _≤_, _<_, _-_}
+use lib.ListN.{length, getD, length-set}
 use borrow.Author.Needs.{needs}
 use Rattle.plc_pitch.proofs.search.add_products.Statement.{statement}
 use Rattle.plc_pitch.proofs.search.add_products.Tie as tie
-use Rattle.plc_pitch.proofs.search.add_products.Reads as reads
-use Rattle.plc_pitch.proofs.search.add_products.Lts as lts
 
 abbrev term : Float → List Float → List Float → ℕ → Float
 term v y s k = add binary32 (getD s k nan) (mul binary32 v (getD y k nan))
@@ -24,44 +19,34 @@ abbrev μ-loop : tie.MeasureT-loop
 μ-loop v y sums₀ n i₀ sums i =
     n - i
 
--- src/search.rt:26:5
 loop-holds : tie.Need-loop-holds Inv-loop μ-loop
 loop-holds c =
     (search needs, search needs, refl, tab-none _ _)
 
--- src/search.rt:27:19
 mul-sums : tie.Need-mul-sums Inv-loop μ-loop
 mul-sums c = search needs
 
--- src/search.rt:27:19
 slice-read-sums : tie.Need-slice-read-sums Inv-loop μ-loop
 slice-read-sums c = search needs
 
--- src/search.rt:27:33
 mul-sums-2 : tie.Need-mul-sums-2 Inv-loop μ-loop
 mul-sums-2 c = search needs
 
--- src/search.rt:27:33
 shared-slice-read-sums : tie.Need-shared-slice-read-sums Inv-loop μ-loop
 shared-slice-read-sums c = search needs
 
--- src/search.rt:27:9
 mul-sums-3 : tie.Need-mul-sums-3 Inv-loop μ-loop
 mul-sums-3 c = search needs
 
--- src/search.rt:27:9
 slice-write-sums : tie.Need-slice-write-sums Inv-loop μ-loop
 slice-write-sums c = search needs
 
--- src/search.rt:26:9
 add-i : tie.Need-add-i Inv-loop μ-loop
 add-i c = search needs
 
--- src/search.rt:26:5
 loop-less : tie.Need-loop-less Inv-loop μ-loop
 loop-less c = search needs
 
--- src/search.rt:26:5
 loop-again : tie.Need-loop-again Inv-loop μ-loop
 loop-again c =
     let l = c .before .before .before .loop in
@@ -74,11 +59,9 @@ loop-again c =
           (ap (λ z. add binary32 z (mul binary32 (a .v) (getD (a .y .now) (l .i) nan))) (tab-read (term (a .v) (a .y .now) (a .sums .now)) nan _ _ _ (l .inv .3) h)) h,
     )
 
--- src/search.rt:21:1
 same-length : tie.Need-same-length Inv-loop μ-loop
 same-length c = search needs
 
--- src/search.rt:21:1
 returns : tie.Need-returns Inv-loop μ-loop
 returns c =
     let l = c .before .loop in

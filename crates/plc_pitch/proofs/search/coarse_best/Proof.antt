@@ -1,85 +1,60 @@
 use Rattle.plc_pitch.proofs.Steps.{coarse-done, first-count, length-second}
-use mathlib.Core.Path.{_≡_, refl, ap, _∙_, sym}
-use mathlib.Core.List.{List, [], _∷_, _++_}
-use mathlib.Core.Logic.{⊎-elim}
-use Prim.Native.Nat.{ℕ, zero, suc, _+_, _≤_, _<_, _-_}
+use mathlib.Core.Path.{ap, _∙_, sym}
 use native.Mathlib.Omega.{arith}
-use native.Mathlib.Numerals.{add-one}
-use lib.ListN.{length, getD, set, take, drop, length-set}
+use lib.ListN.{length}
 use borrow.Author.Needs.{needs}
 use Rattle.plc_pitch.proofs.search.coarse_best.Statement.{statement}
 use Rattle.plc_pitch.proofs.search.coarse_best.Tie as tie
-use Rattle.plc_pitch.proofs.search.coarse_best.Reads as reads
-use Rattle.plc_pitch.proofs.search.coarse_best.Lts as lts
-use Rattle.plc_pitch.proofs.best.two_best.Reads as two-best-reads
-use Rattle.plc_pitch.proofs.search.correlate.Reads as correlate-reads
-use Rattle.plc_pitch.proofs.search.every_second.Reads as every-second-reads
 
--- src/search.rt:113:18
 sub-every-second : tie.Need-sub-every-second
 sub-every-second c = search needs
 
--- src/search.rt:113:18
 part-every-second-start : tie.Need-part-every-second-start
 part-every-second-start c = search needs
 
--- src/search.rt:113:18
 part-every-second-end : tie.Need-part-every-second-end
 part-every-second-end c = search needs
 
--- src/search.rt:113:29
 slice-aggregate-every-second : tie.Need-slice-aggregate-every-second
 slice-aggregate-every-second c = search needs
 
--- src/search.rt:113:5
 every-second-requires : tie.Need-every-second-requires
 every-second-requires c κs = search needs
 
--- src/search.rt:115:21
 slice-aggregate-every-second-2 : tie.Need-slice-aggregate-every-second-2
 slice-aggregate-every-second-2 c = search needs
 
--- src/search.rt:115:5
 every-second-requires-2 : tie.Need-every-second-requires-2
 every-second-requires-2 c κs = search needs
 
--- src/search.rt:117:15
 slice-aggregate-correlate : tie.Need-slice-aggregate-correlate
 slice-aggregate-correlate c = search needs
 
--- src/search.rt:117:20
 slice-aggregate-correlate-2 : tie.Need-slice-aggregate-correlate-2
 slice-aggregate-correlate-2 c = search needs
 
--- src/search.rt:117:25
 slice-aggregate-correlate-3 : tie.Need-slice-aggregate-correlate-3
 slice-aggregate-correlate-3 c = search needs
 
--- src/search.rt:117:5
 correlate-requires : tie.Need-correlate-requires
 correlate-requires c κs = search needs
 
--- src/search.rt:118:14
 array-share-prefix-xcorr : tie.Need-array-share-prefix-xcorr
 array-share-prefix-xcorr c = search needs
 
--- src/search.rt:118:14
 slice-aggregate-two-best : tie.Need-slice-aggregate-two-best
 slice-aggregate-two-best c =
     sym (first-count _ _ 155 156 (omega arith) (c .before .before .correlate .ensures))
 
--- src/search.rt:118:29
 slice-aggregate-two-best-2 : tie.Need-slice-aggregate-two-best-2
 slice-aggregate-two-best-2 c = search needs
 
--- src/search.rt:118:5
 two-best-requires : tie.Need-two-best-requires
 two-best-requires c κs = (
   omega (arith, first-count _ _ 155 156 (omega arith) (c .before .before .before .correlate .ensures)),
   omega (arith, ap length (c .before .before .before .before .before .before .before .before .every-second2 .ensures) ∙ length-second _ 487),
 )
 
--- src/search.rt:108:1
 returns : tie.Need-returns
 returns c =
     coarse-done _ _ _ _ _

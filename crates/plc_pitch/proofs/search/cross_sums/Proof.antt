@@ -1,22 +1,15 @@
 use lib.ListN.{length-drop}
 use Rattle.plc_pitch.proofs.Rows.{to-end}
-use Rattle.loops.specs.Front.{front, tab, tab-none, tab-more, tab-all, length-tab}
-use Rattle.plc_pitch.specs.Search.{crossSum}
+use Rattle.loops.specs.Front.{front, tab-none, tab-more, tab-all, length-tab}
 use Rattle.plc_pitch.proofs.Rows.{cross-none, row, row-more}
 use lib.Ieee.{nan}
-use mathlib.Core.Path.{_≡_, refl, ap, _∙_, sym}
-use mathlib.Core.List.{List, [], _∷_, _++_}
-use mathlib.Core.Logic.{⊎-elim}
-use Prim.Native.Nat.{ℕ, zero, suc, _+_, _≤_, _<_, _-_}
+use mathlib.Core.Path.{_≡_, refl, ap, _∙_}
+use Prim.Native.Nat.{_≤_, _-_}
 use native.Mathlib.Omega.{arith}
-use native.Mathlib.Numerals.{add-one}
-use lib.ListN.{length, getD, set, take, drop, length-set}
+use lib.ListN.{length, length-set}
 use borrow.Author.Needs.{needs}
 use Rattle.plc_pitch.proofs.search.cross_sums.Statement.{statement}
 use Rattle.plc_pitch.proofs.search.cross_sums.Tie as tie
-use Rattle.plc_pitch.proofs.search.cross_sums.Reads as reads
-use Rattle.plc_pitch.proofs.search.cross_sums.Lts as lts
-use Rattle.plc_pitch.proofs.search.add_products.Reads as add-products-reads
 
 abbrev Inv-loop : tie.InvT-loop
 Inv-loop x y sums₀ m i₀ sums i =
@@ -34,92 +27,73 @@ abbrev μ-loop2 : tie.MeasureT-loop2
 μ-loop2 x y sums₀ m n j₀ sums j =
     n - j
 
--- src/search.rt:37:5
 loop-holds : tie.Need-loop-holds Inv-loop μ-loop Inv-loop2 μ-loop2
 loop-holds c =
     (search needs, search needs, refl, tab-none _ _)
 
--- src/search.rt:38:9
 mul-sums : tie.Need-mul-sums Inv-loop μ-loop Inv-loop2 μ-loop2
 mul-sums c = search needs
 
--- src/search.rt:38:9
 slice-write-sums : tie.Need-slice-write-sums Inv-loop μ-loop Inv-loop2 μ-loop2
 slice-write-sums c = search needs
 
--- src/search.rt:37:9
 add-i : tie.Need-add-i Inv-loop μ-loop Inv-loop2 μ-loop2
 add-i c = search needs
 
--- src/search.rt:37:5
 loop-less : tie.Need-loop-less Inv-loop μ-loop Inv-loop2 μ-loop2
 loop-less c = search needs
 
--- src/search.rt:37:5
 loop-again : tie.Need-loop-again Inv-loop μ-loop Inv-loop2 μ-loop2
 loop-again c =
     let l = c .before .loop in
     (search needs, search needs, simp length-set (l .inv .2), tab-more _ nan _ _ _ (l .inv .3) _ (cross-none _ _ _) (search needs))
 
--- src/search.rt:41:5
 loop2-holds : tie.Need-loop2-holds Inv-loop μ-loop Inv-loop2 μ-loop2
 loop2-holds c =
     let l = c .before .loop in
     let e : length (c .before .before .before .before .before .args .sums .now) ≡ l .i = search needs in
     (search needs, refl, l .inv .2, tab-all _ nan _ _ _ (l .inv .3) e)
 
--- src/search.rt:42:22
 mul-add-products : tie.Need-mul-add-products Inv-loop μ-loop Inv-loop2 μ-loop2
 mul-add-products c = search needs
 
--- src/search.rt:42:22
 shared-slice-read-add-products :
     tie.Need-shared-slice-read-add-products Inv-loop μ-loop Inv-loop2 μ-loop2
 shared-slice-read-add-products c = search needs
 
--- src/search.rt:42:28
 mul-add-products-2 : tie.Need-mul-add-products-2 Inv-loop μ-loop Inv-loop2 μ-loop2
 mul-add-products-2 c = search needs
 
--- src/search.rt:42:28
 sub-add-products : tie.Need-sub-add-products Inv-loop μ-loop Inv-loop2 μ-loop2
 sub-add-products c = search needs
 
--- src/search.rt:42:28
 part-add-products-start : tie.Need-part-add-products-start Inv-loop μ-loop Inv-loop2 μ-loop2
 part-add-products-start c = search needs
 
--- src/search.rt:42:28
 part-add-products-end : tie.Need-part-add-products-end Inv-loop μ-loop Inv-loop2 μ-loop2
 part-add-products-end c = search needs
 
--- src/search.rt:42:9
 add-products-requires : tie.Need-add-products-requires Inv-loop μ-loop Inv-loop2 μ-loop2
 add-products-requires c κs =
     let a = c .before .before .before .before .before .before .before .before .before .before .args in
     let l = c .before .before .before .before .loop2 in
     rw (to-end (l .j) (a .y .now)) (omega (arith, length-drop (l .j) (a .y .now), l .inv .2))
 
--- src/search.rt:41:9
 add-j : tie.Need-add-j Inv-loop μ-loop Inv-loop2 μ-loop2
 add-j c = search needs
 
--- src/search.rt:41:5
 loop2-less : tie.Need-loop2-less Inv-loop μ-loop Inv-loop2 μ-loop2
 loop2-less c = search needs
 
--- src/search.rt:41:5
 loop2-again : tie.Need-loop2-again Inv-loop μ-loop Inv-loop2 μ-loop2
 loop2-again c =
     let l = c .before .before .before .before .before .before .before .loop2 in
     let e = row-more _ _ _ _ _ _ (l .inv .3) (l .inv .2) (c .before .before .add-products .ensures) in
     (search needs, search needs, ap length e ∙ length-tab _ _, e)
 
--- src/search.rt:32:1
 same-length : tie.Need-same-length Inv-loop μ-loop Inv-loop2 μ-loop2
 same-length c = search needs
 
--- src/search.rt:32:1
 returns : tie.Need-returns Inv-loop μ-loop Inv-loop2 μ-loop2
 returns c =
     let l = c .before .loop2 in

@@ -1,21 +1,13 @@
-use Rattle.loops.specs.Front.{front, tab, tab-none, tab-more, tab-all, length-tab}
+use Rattle.loops.specs.Front.{front, tab, tab-none, tab-more, tab-all}
 use Rattle.plc_pitch.specs.Search.{fineAt}
 use Rattle.plc_pitch.proofs.Near.{fine-at}
 use lib.Ieee.{nan}
-use mathlib.Core.Path.{_≡_, refl, ap, _∙_, sym}
-use mathlib.Core.List.{List, [], _∷_, _++_}
-use mathlib.Core.Logic.{⊎-elim}
-use Prim.Native.Nat.{ℕ, zero, suc, _+_, _≤_, _<_, _-_}
-use native.Mathlib.Omega.{arith}
-use native.Mathlib.Numerals.{add-one}
-use lib.ListN.{length, getD, set, take, drop, length-set}
+use mathlib.Core.Path.{_≡_, refl, ap, _∙_}
+use Prim.Native.Nat.{_≤_, _-_}
+use lib.ListN.{length, length-set}
 use borrow.Author.Needs.{needs}
 use Rattle.plc_pitch.proofs.search.fine_row.Statement.{statement}
 use Rattle.plc_pitch.proofs.search.fine_row.Tie as tie
-use Rattle.plc_pitch.proofs.search.fine_row.Reads as reads
-use Rattle.plc_pitch.proofs.search.fine_row.Lts as lts
-use Rattle.plc_pitch.proofs.search.near_or.Reads as near-or-reads
-use Rattle.plc_pitch.proofs.search.near_row.Reads as near-row-reads
 
 abbrev Inv-loop : tie.InvT-loop
 Inv-loop y b0 b1 xcorr₀ row0 row1 i₀ xcorr i =
@@ -25,44 +17,34 @@ abbrev μ-loop : tie.MeasureT-loop
 μ-loop y b0 b1 xcorr₀ row0 row1 i₀ xcorr i =
     310 - i
 
--- src/search.rt:99:16
 near-row-requires : tie.Need-near-row-requires Inv-loop μ-loop
 near-row-requires c κs = search needs
 
--- src/search.rt:100:16
 near-row-requires-2 : tie.Need-near-row-requires-2 Inv-loop μ-loop
 near-row-requires-2 c κs = search needs
 
--- src/search.rt:101:5
 loop-holds : tie.Need-loop-holds Inv-loop μ-loop
 loop-holds c =
     (search needs, refl, tab-none _ _)
 
--- src/search.rt:102:42
 near-or-requires : tie.Need-near-or-requires Inv-loop μ-loop
 near-or-requires c κs = search needs
 
--- src/search.rt:102:20
 near-or-requires-2 : tie.Need-near-or-requires-2 Inv-loop μ-loop
 near-or-requires-2 c κs = search needs
 
--- src/search.rt:102:9
 mul-xcorr : tie.Need-mul-xcorr Inv-loop μ-loop
 mul-xcorr c = search needs
 
--- src/search.rt:102:9
 slice-write-xcorr : tie.Need-slice-write-xcorr Inv-loop μ-loop
 slice-write-xcorr c = search needs
 
--- src/search.rt:101:9
 add-i : tie.Need-add-i Inv-loop μ-loop
 add-i c = search needs
 
--- src/search.rt:101:5
 loop-less : tie.Need-loop-less Inv-loop μ-loop
 loop-less c = search needs
 
--- src/search.rt:101:5
 loop-again : tie.Need-loop-again Inv-loop μ-loop
 loop-again c =
     let l = c .before .before .before .before .before .loop in
@@ -74,11 +56,9 @@ loop-again c =
           (search needs),
     )
 
--- src/search.rt:95:1
 same-length : tie.Need-same-length Inv-loop μ-loop
 same-length c = search needs
 
--- src/search.rt:95:1
 returns : tie.Need-returns Inv-loop μ-loop
 returns c =
     let l = c .before .loop in
