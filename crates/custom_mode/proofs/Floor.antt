@@ -1,18 +1,16 @@
 -- The steps of x, from the f64 product 256 * x, which loses nothing.
 use mathlib.Core.Path.{_≡_, refl, ap, _∙_, sym, subst}
-use mathlib.Core.Bool.{Bool, true, false, not, cond, _&&_, _||_}
-use mathlib.Core.Logic.{_⊎_, inl, inr, ⊎-elim}
-use Prim.Native.Nat.{ℕ, zero, suc, _+_, _*_, _-_, _/_, _%_, _^_, _≤_, _<_, min}
-use native.Mathlib.Nat.{lt-irrefl, add-zero, mul-mod-left, mul-le-mul-left, mul-lt-mul-of-pos-left, mul-assoc, mul-comm, mul-one, one-mul, mul-right-comm, mul-left-comm, mul-pos, lt-of-lt-of-le, lt-of-le-of-lt, le-of-lt, le-trans, div-add-mod', div-lt-iff-lt-mul, div-le-of-le-mul, min-eq-left, lt-of-mul-lt-mul-right, mul-lt-mul-of-pos-right, le-of-mul-le-mul-right, mul-le-mul-right, eq-of-mul-eq-mul-right, mod-lt, pos-of-ne-zero}
+use mathlib.Core.Bool.{Bool, true, false, cond, _&&_}
+use Prim.Native.Nat.{ℕ, zero, suc, _+_, _*_, _-_, _/_, _%_, _^_, _≤_, _<_}
+use native.Mathlib.Nat.{lt-irrefl, add-zero, mul-mod-left, mul-le-mul-left, mul-lt-mul-of-pos-left, mul-assoc, mul-comm, mul-one, one-mul, mul-right-comm, mul-left-comm, lt-of-lt-of-le, lt-of-le-of-lt, le-trans, div-add-mod', lt-of-mul-lt-mul-right, mul-lt-mul-of-pos-right, le-of-mul-le-mul-right, mul-le-mul-right, eq-of-mul-eq-mul-right}
 use native.Mathlib.Omega.{arith}
 use lib.IntN.{ℤ, pos, negsuc}
-use lib.Dec.{T, leb, ltb, eqb, lit<, lit≤, ltb→lt, leb→le, lt→ltb}
+use lib.Dec.{T, leb, ltb, eqb, lit<, lit≤, ltb→lt, leb→le}
 use lib.Pow.{pow-add, pow-pos, pow-mono, pow-lt, shl-lt}
 use borrow.Author.Tests.{ltb-true, ltb-false, eqb-true, eqb-false, eq-eqb, ne-eqb}
-use lib.Ieee.{Float, nan, inf, fin, binary32, binary64, prec, low, emax, up, down, fits, ofInt, ofBits, mul, neg, lt, le, eq, below, level, toUnsigned, round, unlike}
+use lib.Ieee.{Float, nan, inf, fin, binary32, binary64, up, down, fits, ofBits, mul, round, unlike}
 use lib.Ieee.Exact.{HasValue, round-exact}
-use lib.Ieee.Back.{round-whole}
-use lib.Ieee.Fits.{up-pos, down-pos, and-l, and-r}
+use lib.Ieee.Fits.{down-pos, and-l, and-r}
 use lib.Ieee.Nearest.{div-same}
 use Rattle.custom_mode.specs.Gain.{floorFrom, steps, Within}
 

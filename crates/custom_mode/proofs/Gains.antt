@@ -1,11 +1,11 @@
 -- From the sum of energy and mean to the gain.
 use mathlib.Core.Path.{_≡_, refl, ap, _∙_, sym, subst}
 use mathlib.Core.Bool.{Bool, true, false, cond, _&&_, _||_}
-use Prim.Native.Nat.{ℕ, _+_, _*_, _-_, _/_, _%_, _≤_, _<_}
+use Prim.Native.Nat.{ℕ, _*_, _/_, _%_, _<_}
 use native.Mathlib.Omega.{arith}
-use lib.IntN.{ℤ, pos}
+use lib.IntN.{ℤ}
 use lib.Dec.{T, ltb, eqb, lit≤}
-use borrow.Author.Tests.{ltb-true, ltb-false, eq-eqb, eqb-false}
+use borrow.Author.Tests.{ltb-false, eqb-false}
 use lib.Ieee.{Float, nan, inf, fin, binary32, binary64, up, down, minus, fits, ofInt, ofBits, neg, add, sub, mul, div, lt, le, eq, isNan}
 use lib.Ieee.Fits.{add-fits, cond-fits}
 use lib.Ieee.Bits.{ofBits-fits}

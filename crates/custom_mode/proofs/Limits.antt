@@ -1,17 +1,17 @@
 -- What the code asks of w and learns, w being 256 * x and q the steps of x.
-use mathlib.Core.Path.{_≡_, refl, ap, _∙_, sym, subst}
-use mathlib.Core.Bool.{Bool, true, false, not, cond, _&&_, _||_}
-use Prim.Native.Nat.{ℕ, zero, suc, _+_, _*_, _-_, _/_, _%_, _^_, _≤_, _<_, min}
-use native.Mathlib.Nat.{add-zero, mul-one, one-mul, zero-mul, mul-comm, mul-assoc, mul-right-comm, le-trans, le-of-lt, div-add-mod', div-lt-iff-lt-mul, div-le-of-le-mul, min-eq-left, lt-of-mul-lt-mul-right, le-of-mul-le-mul-right, zero-div, zero-mod, mul-lt-mul-of-pos-right, mul-le-mul-right}
+use mathlib.Core.Path.{_≡_, refl, ap, _∙_, sym}
+use mathlib.Core.Bool.{Bool, true, false, cond, _&&_, _||_}
+use Prim.Native.Nat.{ℕ, zero, _+_, _*_, _-_, _/_, _%_, _^_, _≤_, _<_}
+use native.Mathlib.Nat.{mul-one, zero-mul, mul-comm, mul-right-comm, div-add-mod', div-lt-iff-lt-mul, div-le-of-le-mul, min-eq-left, zero-div, zero-mod, mul-lt-mul-of-pos-right, mul-le-mul-right}
 use native.Mathlib.Omega.{arith}
-use lib.IntN.{ℤ, pos, negsuc}
-use lib.Dec.{T, leb, ltb, eqb, lit<, lit≤, lt→ltb}
-use borrow.Author.Tests.{ltb-true, ltb-false, eqb-true, eqb-false, eq-eqb, ne-eqb, lt-ltb, le-ltb}
+use lib.IntN.{ℤ, pos}
+use lib.Dec.{T, ltb, eqb, lt→ltb}
+use borrow.Author.Tests.{ltb-true, ltb-false, eqb-true, eq-eqb, ne-eqb, lt-ltb, le-ltb}
 use lib.Ieee.{Float, nan, inf, fin, binary64, up, down, ofInt, ofBits, neg, lt, le, eq, toUnsigned}
 use lib.Ieee.Exact.{HasValue}
 use lib.Ieee.Back.{round-whole}
 use lib.Ieee.Fits.{down-pos}
-use Rattle.custom_mode.specs.Bands.{and-true}
+use Rattle.custom_mode.specs.Below.{and-true}
 use Rattle.custom_mode.specs.Gain.{floorFrom}
 use Rattle.custom_mode.proofs.Floor.{Fine}
 

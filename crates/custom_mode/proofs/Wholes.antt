@@ -3,10 +3,10 @@ use mathlib.Core.Path.{_≡_, refl, ap, _∙_, sym}
 use mathlib.Core.Bool.{Bool, true, false, not, cond}
 use Prim.Native.Nat.{ℕ, zero, suc, _+_, _*_, _-_, _/_, _%_, _^_, _≤_, _<_}
 use native.Mathlib.Omega.{arith}
-use lib.IntN.{ℤ, pos, negsuc}
-use lib.Dec.{leb, ltb, eqb, T}
+use lib.IntN.{pos, negsuc}
+use lib.Dec.{leb, ltb, T}
 use borrow.Author.Tests.{leb-true, leb-false, le-leb, lt-leb, ne-eqb}
-use lib.Ieee.{Float, fin, inf, Format, binary64, prec, low, emax, minus, neg, ofInt, ofBits, ofFields, odd, units, round, nanBits}
+use lib.Ieee.{fin, inf, Format, binary64, prec, low, emax, minus, neg, ofInt, ofBits, ofFields, odd, units, round, nanBits}
 
 neg-odd : (d q k l : ℕ) → neg (odd d false q k l) ≡ odd d true q k l
 unfolding neg odd

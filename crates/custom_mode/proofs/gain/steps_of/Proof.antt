@@ -1,14 +1,8 @@
-use mathlib.Core.Path.{_≡_, refl, ap, _∙_, sym}
-use mathlib.Core.List.{List, [], _∷_, _++_}
-use mathlib.Core.Logic.{⊎-elim}
-use Prim.Native.Nat.{ℕ, zero, suc, _+_, _≤_, _<_, _-_}
+use mathlib.Core.Path.{_≡_, _∙_, sym, subst}
+use Prim.Native.Nat.{_+_, _≤_, _-_, _^_}
 use native.Mathlib.Omega.{arith}
-use native.Mathlib.Numerals.{add-one}
-use lib.ListN.{length, getD, set, take, drop, length-set}
 use borrow.Author.Needs.{needs}
-use mathlib.Core.Path.{subst}
 use mathlib.Core.Bool.{true, false}
-use Prim.Native.Nat.{_^_}
 use lib.Dec.{le→leb}
 use lib.Ieee.{inFloat}
 use Rattle.custom_mode.specs.Gain.{steps}
@@ -16,61 +10,47 @@ use Rattle.custom_mode.proofs.Floor.{Fine, product, fine}
 use Rattle.custom_mode.proofs.Limits.{asked-above, found-above, asked-below, small-below, found-below}
 use Rattle.custom_mode.proofs.gain.steps_of.Statement.{statement}
 use Rattle.custom_mode.proofs.gain.steps_of.Tie as tie
-use Rattle.custom_mode.proofs.gain.steps_of.Reads as reads
-use Rattle.custom_mode.proofs.gain.steps_of.Lts as lts
-use Rattle.float_bits.proofs.formats.f32_to_f64.Reads as f32-to-f64-reads
-use Rattle.std.proofs.num.truncating_f64_to_u64.Reads as truncating-f64-to-u64-reads
 
 fine-at : (c : tie.After-f32-to-f64) → Fine (product (c .f32-to-f64 .result)) (steps (c .before .args .x))
 fine-at c =
     subst (λ z. Fine (product z) (steps (c .before .args .x))) (sym (c .f32-to-f64 .ensures))
     (fine (c .before .args .x) (c .before .pre .1) (c .before .pre .0))
 
--- src/gain.rt:24:21
 f32-to-f64-requires : tie.Need-f32-to-f64-requires
 f32-to-f64-requires c κs = search needs
 
--- src/gain.rt:26:25
 truncating-f64-to-u64-requires : tie.Need-truncating-f64-to-u64-requires
 truncating-f64-to-u64-requires c κs = asked-above _ _ (fine-at (c .before)) (c .if1 .taken)
 
--- src/gain.rt:26:16
 add-result : tie.Need-add-result
 add-result c =
     omega (arith, found-above _ _ _ (fine-at (c .before .before)) (c .before .if1 .taken) (c .truncating-f64-to-u64 .ensures) .1)
 
--- src/gain.rt:26:9
 returns : tie.Need-returns
 returns c = found-above _ _ _ (fine-at (c .before .before)) (c .before .if1 .taken) (c .truncating-f64-to-u64 .ensures)
 
--- src/gain.rt:29:9
 truncating-f64-to-u64-requires-2 : tie.Need-truncating-f64-to-u64-requires-2
 truncating-f64-to-u64-requires-2 c κs = asked-below _ _ (fine-at (c .before)) (c .if1 .left)
 
 few : (c : tie.After-truncating-f64-to-u642) → c .truncating-f64-to-u642 .result ≤ 38_399
 few c = small-below _ _ _ (fine-at (c .before .before)) (c .before .if1 .left) (c .truncating-f64-to-u642 .ensures)
 
--- src/gain.rt:30:9
 int-to-float-if2 : tie.Need-int-to-float-if2
 unfolding inFloat
 int-to-float-if2 c = le→leb (c .before .truncating-f64-to-u642 .result) (2 ^ 53) (omega (arith, few (c .before)))
 
--- src/gain.rt:31:9
 sub-result : tie.Need-sub-result
 sub-result c = few (c .before .before)
 
--- src/gain.rt:33:9
 sub-result-2 : tie.Need-sub-result-2
 sub-result-2 c = omega (arith, few (c .before .before))
 
--- src/gain.rt:19:1
 returns-2 : tie.Need-returns-2
 returns-2 c =
     let t = c .before .before in
     let z : 38_399 - t .truncating-f64-to-u642 .result ≡ 38_400 - (t .truncating-f64-to-u642 .result + 1) = omega arith in
     (z ∙ found-below true _ _ _ (fine-at (t .before .before)) (t .before .if1 .left) (t .truncating-f64-to-u642 .ensures) (c .if2 .taken), omega arith)
 
--- src/gain.rt:19:1
 returns-3 : tie.Need-returns-3
 returns-3 c =
     let t = c .before .before in

@@ -1,44 +1,29 @@
-use mathlib.Core.Path.{_≡_, refl, ap, _∙_, sym}
-use mathlib.Core.List.{List, [], _∷_, _++_}
-use mathlib.Core.Logic.{⊎-elim}
-use Prim.Native.Nat.{ℕ, zero, suc, _+_, _≤_, _<_, _-_}
-use native.Mathlib.Omega.{arith}
-use native.Mathlib.Numerals.{add-one}
-use lib.ListN.{length, getD, set, take, drop, length-set}
-use borrow.Author.Needs.{needs}
+use mathlib.Core.Path.{ap, sym}
 use borrow.Author.Tests.{ne-eqb}
 use Rattle.custom_mode.specs.Rate.{resamplingFactor}
 use Rattle.custom_mode.proofs.rate.resampling_factor.Statement.{statement}
 use Rattle.custom_mode.proofs.rate.resampling_factor.Tie as tie
-use Rattle.custom_mode.proofs.rate.resampling_factor.Reads as reads
-use Rattle.custom_mode.proofs.rate.resampling_factor.Lts as lts
 
--- src/rate.rt:11:1
 returns : tie.Need-returns
 unfolding resamplingFactor
 returns c = ap resamplingFactor (sym (c .match .keys1))
 
--- src/rate.rt:11:1
 returns-2 : tie.Need-returns-2
 unfolding resamplingFactor
 returns-2 c = ap resamplingFactor (sym (c .match .keys2))
 
--- src/rate.rt:11:1
 returns-3 : tie.Need-returns-3
 unfolding resamplingFactor
 returns-3 c = ap resamplingFactor (sym (c .match .keys3))
 
--- src/rate.rt:11:1
 returns-4 : tie.Need-returns-4
 unfolding resamplingFactor
 returns-4 c = ap resamplingFactor (sym (c .match .keys4))
 
--- src/rate.rt:11:1
 returns-5 : tie.Need-returns-5
 unfolding resamplingFactor
 returns-5 c = ap resamplingFactor (sym (c .match .keys5))
 
--- src/rate.rt:11:1
 returns-6 : tie.Need-returns-6
 unfolding resamplingFactor
 returns-6 c =

@@ -1,29 +1,17 @@
-use mathlib.Core.Path.{_≡_, refl, ap, _∙_, sym}
-use mathlib.Core.List.{List, [], _∷_, _++_}
-use mathlib.Core.Logic.{⊎-elim}
-use Prim.Native.Nat.{ℕ, zero, suc, _+_, _≤_, _<_, _-_}
-use native.Mathlib.Omega.{arith}
-use native.Mathlib.Numerals.{add-one}
-use lib.ListN.{length, getD, set, take, drop, length-set}
-use borrow.Author.Needs.{needs}
+use mathlib.Core.Path.{ap, sym}
 use Rattle.custom_mode.specs.Mode.{combGains}
 use Rattle.custom_mode.proofs.Tables.{comb-last}
 use Rattle.custom_mode.proofs.standard.comb_gains.Statement.{statement}
 use Rattle.custom_mode.proofs.standard.comb_gains.Tie as tie
-use Rattle.custom_mode.proofs.standard.comb_gains.Reads as reads
-use Rattle.custom_mode.proofs.standard.comb_gains.Lts as lts
 
--- src/standard.rt:84:1
 returns : tie.Need-returns
 unfolding combGains
 returns c = ap combGains (sym (c .match .keys1))
 
--- src/standard.rt:84:1
 returns-2 : tie.Need-returns-2
 unfolding combGains
 returns-2 c = ap combGains (sym (c .match .keys2))
 
--- src/standard.rt:84:1
 returns-3 : tie.Need-returns-3
 unfolding combGains
 returns-3 c = comb-last (c .before .args .tapset) (c .match .rest .0 .1) (c .match .rest .1)
