@@ -6,85 +6,77 @@ use native.Mathlib.Omega.{arith}
 use native.Mathlib.Numerals.{add-one}
 use lib.ListN.{length, getD, set, take, drop, length-set}
 use borrow.Author.Needs.{needs}
+use native.Mathlib.Nat.{mul-le-mul}
 use Rattle.loops.specs.Front.{front, tab, tab-none, tab-more, tab-all}
-use Rattle.mdct.proofs.imdct.strides.Statement.{statement}
-use Rattle.mdct.proofs.imdct.strides.Tie as tie
-use Rattle.mdct.proofs.imdct.strides.Reads as reads
-use Rattle.mdct.proofs.imdct.strides.Lts as lts
+use Rattle.mdct.proofs.imdct.along.Statement.{statement}
+use Rattle.mdct.proofs.imdct.along.Tie as tie
+use Rattle.mdct.proofs.imdct.along.Reads as reads
+use Rattle.mdct.proofs.imdct.along.Lts as lts
 
 abbrev Inv-loop : tie.InvT-loop
-Inv-loop n t w r₀ j₀ r j = (j ≤ 8) × (length r ≡ 8) × (length r₀ ≡ 8) × (r ≡ front (tab (λ (j : ℕ). (2 * (t + j) + 1 + n) % (4 * n)) j) r₀ j)
+Inv-loop first by w r₀ j₀ r j = (j ≤ 8) × (length r ≡ 8) × (length r₀ ≡ 8) × (r ≡ front (tab (λ (j : ℕ). (first + by * j) % w) j) r₀ j)
 
 abbrev μ-loop : tie.MeasureT-loop
-μ-loop n t w r₀ j₀ r j = 8 - j
+μ-loop first by w r₀ j₀ r j = 8 - j
 
--- src/imdct.rt:74:13
-mul-w : tie.Need-mul-w Inv-loop μ-loop
-mul-w c = search needs
+short : (c : tie.In-loop Inv-loop μ-loop) → (c .before .before .args .by * c .before .loop .j ≤ 14) × (c .before .before .args .first < 8000)
+short c =
+    let a = c .before .before in
+    let h : c .before .loop .j ≤ 7 = omega arith in
+    (mul-le-mul (a .pre .1) h, a .pre .0)
 
--- src/imdct.rt:76:5
+-- src/imdct.rt:62:5
 loop-holds : tie.Need-loop-holds Inv-loop μ-loop
 loop-holds c = (search needs, search needs, search needs, tab-none _ _)
 
--- src/imdct.rt:77:22
-add-r : tie.Need-add-r Inv-loop μ-loop
-add-r c = search needs
-
--- src/imdct.rt:77:17
+-- src/imdct.rt:63:25
 mul-r : tie.Need-mul-r Inv-loop μ-loop
-mul-r c = search needs
+mul-r c = omega (arith, short c)
 
--- src/imdct.rt:77:17
-add-r-2 : tie.Need-add-r-2 Inv-loop μ-loop
-add-r-2 c = search needs
+-- src/imdct.rt:63:17
+add-r : tie.Need-add-r Inv-loop μ-loop
+add-r c = omega (arith, short c)
 
--- src/imdct.rt:77:17
-add-r-3 : tie.Need-add-r-3 Inv-loop μ-loop
-add-r-3 c = search needs
-
--- src/imdct.rt:77:16
+-- src/imdct.rt:63:16
 rem-r : tie.Need-rem-r Inv-loop μ-loop
 rem-r c = search needs
 
--- src/imdct.rt:77:9
+-- src/imdct.rt:63:9
 mul-r-2 : tie.Need-mul-r-2 Inv-loop μ-loop
 mul-r-2 c = search needs
 
--- src/imdct.rt:77:9
+-- src/imdct.rt:63:9
 array-write-r : tie.Need-array-write-r Inv-loop μ-loop
 array-write-r c = search needs
 
--- src/imdct.rt:76:9
+-- src/imdct.rt:62:9
 add-j : tie.Need-add-j Inv-loop μ-loop
 add-j c = search needs
 
--- src/imdct.rt:76:5
+-- src/imdct.rt:62:5
 loop-less : tie.Need-loop-less Inv-loop μ-loop
 loop-less c = search needs
 
--- src/imdct.rt:76:5
+-- src/imdct.rt:62:5
 loop-again : tie.Need-loop-again Inv-loop μ-loop
 loop-again c = (search needs, simp length-set (search needs), search needs, tab-more _ 0 _ _ _ (c .before .loop .inv .3) _ refl (search needs))
 
--- src/imdct.rt:70:1
+-- src/imdct.rt:57:1
 returns : tie.Need-returns Inv-loop μ-loop
 returns c =
     let l = c .before .loop in
     let e : 8 ≡ l .j = search needs in
     tab-all _ 0 _ _ _ (l .inv .3) (l .inv .2 ∙ e) ∙ ap (tab _) (l .inv .2)
 
-pub strides-spec : {M : Type 1} → statement M
-strides-spec =
+pub along-spec : {M : Type 1} → statement M
+along-spec =
     tie.close
     (tie.spec
     Inv-loop
     μ-loop
-    mul-w
     loop-holds
-    add-r
     mul-r
-    add-r-2
-    add-r-3
+    add-r
     rem-r
     mul-r-2
     array-write-r
