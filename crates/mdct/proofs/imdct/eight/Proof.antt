@@ -1,13 +1,12 @@
-use mathlib.Core.Path.{_≡_, refl, ap, _∙_, sym}
-use mathlib.Core.List.{List, [], _∷_, _++_}
-use mathlib.Core.Logic.{⊎-elim}
-use Prim.Native.Nat.{ℕ, zero, suc, _+_, _*_, _/_, _%_, _≤_, _<_, _-_}
+-- `imdct::eight` meets its contract. With each input every output moves to its next place on the circle, and its sum gets one more term.
+use mathlib.Core.Path.{_≡_, ap, _∙_}
+use mathlib.Core.List.{List}
+use Prim.Native.Nat.{ℕ, _+_, _*_, _/_, _%_, _≤_, _<_, _-_}
 use native.Mathlib.Omega.{arith}
 use native.Mathlib.Nat.{mod-lt}
-use native.Mathlib.Numerals.{add-one}
-use lib.ListN.{length, getD, set, take, drop, length-set}
+use lib.ListN.{length, getD, length-set}
 use borrow.Author.Needs.{needs}
-use lib.Ieee.{Float, nan, binary64, ofBits, add, mul}
+use lib.Ieee.{Float, nan, binary64, ofBits, add}
 use Rattle.loops.specs.Front.{front, tab, tab-none, tab-more, tab-same, length-tab, getD-tab}
 use Rattle.loops.specs.Sum.{sumTo, sum-none, sum-more}
 use Rattle.mdct.specs.Imdct.{imdctTerm, imdctSum}
@@ -17,11 +16,6 @@ use Rattle.mdct.proofs.Fronts.{lane, lanes-all, tab-const}
 use Rattle.mdct.proofs.Terms.{term-is}
 use Rattle.mdct.proofs.imdct.eight.Statement.{statement}
 use Rattle.mdct.proofs.imdct.eight.Tie as tie
-use Rattle.mdct.proofs.imdct.eight.Reads as reads
-use Rattle.mdct.proofs.imdct.eight.Lts as lts
-use Rattle.float_bits.proofs.formats.f32_to_f64.Reads as f32-to-f64-reads
-use Rattle.mdct.proofs.imdct.along.Reads as along-reads
-use Rattle.mdct.proofs.imdct.wrapped.Reads as wrapped-reads
 
 -- where output t reads its cosine for input k, and its sum of the inputs before k, for eight outputs
 abbrev places : ℕ → ℕ → ℕ → ℕ → ℕ
@@ -84,7 +78,6 @@ module _ (c : tie.In-loop2 Inv-loop2 μ-loop2 Inv-loop μ-loop) where
   step-less : step c < 4 * n c
   step-less = omega (arith, step-is, mod-lt (2 * t c + 1 + n c) {m = 4 * n c} (omega (arith, at-least _ size)))
 
--- src/imdct.rt:90:13
 mul-w : tie.Need-mul-w Inv-loop2 μ-loop2 Inv-loop μ-loop
 mul-w c = omega (arith, known (c .before))
 
@@ -106,7 +99,6 @@ add-along-3 c = omega (arith, known (c .before .before))
 along-requires-2 : tie.Need-along-requires-2 Inv-loop2 μ-loop2 Inv-loop μ-loop
 along-requires-2 c κs = omega (arith, known (c .before .before))
 
--- src/imdct.rt:94:5
 loop-holds : tie.Need-loop-holds Inv-loop2 μ-loop2 Inv-loop μ-loop
 loop-holds c =
     let a = c .before .before .before in
@@ -117,90 +109,69 @@ loop-holds c =
       tab-const (sums (length (a .args .x .now)) (a .args .x .now) (a .args .t) 0) (ofBits binary64 0) 8 (λ i h. sum-none _ _ _),
     )
 
--- src/imdct.rt:95:28
 mul-f32-to-f64 : tie.Need-mul-f32-to-f64 Inv-loop2 μ-loop2 Inv-loop μ-loop
 mul-f32-to-f64 c = search needs
 
--- src/imdct.rt:95:28
 shared-slice-read-f32-to-f64 :
     tie.Need-shared-slice-read-f32-to-f64 Inv-loop2 μ-loop2 Inv-loop μ-loop
 shared-slice-read-f32-to-f64 c = search needs
 
--- src/imdct.rt:95:13
 f32-to-f64-requires : tie.Need-f32-to-f64-requires Inv-loop2 μ-loop2 Inv-loop μ-loop
 f32-to-f64-requires c κs = search needs
 
--- src/imdct.rt:96:9
 loop2-holds : tie.Need-loop2-holds Inv-loop2 μ-loop2 Inv-loop μ-loop
 loop2-holds c =
     let l = c .before .before .before .loop in
     (search needs, ap length (l .inv .1) ∙ length-tab _ 8, ap length (l .inv .2) ∙ length-tab _ 8, tab-none _ _, tab-none _ _)
 
--- src/imdct.rt:97:21
 mul-i : tie.Need-mul-i Inv-loop2 μ-loop2 Inv-loop μ-loop
 mul-i c = search needs
 
--- src/imdct.rt:97:21
 array-read-i : tie.Need-array-read-i Inv-loop2 μ-loop2 Inv-loop μ-loop
 array-read-i c = search needs
 
--- src/imdct.rt:98:22
 mul-acc : tie.Need-mul-acc Inv-loop2 μ-loop2 Inv-loop μ-loop
 mul-acc c = search needs
 
--- src/imdct.rt:98:22
 array-read-acc : tie.Need-array-read-acc Inv-loop2 μ-loop2 Inv-loop μ-loop
 array-read-acc c = search needs
 
--- src/imdct.rt:98:35
 mul-acc-2 : tie.Need-mul-acc-2 Inv-loop2 μ-loop2 Inv-loop μ-loop
 mul-acc-2 c = omega (arith, at-less c, at-most _ (size c))
 
--- src/imdct.rt:98:35
 element-copy-out-acc : tie.Need-element-copy-out-acc Inv-loop2 μ-loop2 Inv-loop μ-loop
 element-copy-out-acc c = omega (arith, at-less c, at-most _ (size c))
 
--- src/imdct.rt:98:13
 mul-acc-3 : tie.Need-mul-acc-3 Inv-loop2 μ-loop2 Inv-loop μ-loop
 mul-acc-3 c = search needs
 
--- src/imdct.rt:98:13
 array-write-acc : tie.Need-array-write-acc Inv-loop2 μ-loop2 Inv-loop μ-loop
 array-write-acc c = search needs
 
--- src/imdct.rt:99:33
 mul-wrapped : tie.Need-mul-wrapped Inv-loop2 μ-loop2 Inv-loop μ-loop
 mul-wrapped c = search needs
 
--- src/imdct.rt:99:33
 array-read-wrapped : tie.Need-array-read-wrapped Inv-loop2 μ-loop2 Inv-loop μ-loop
 array-read-wrapped c = search needs
 
--- src/imdct.rt:99:29
 add-wrapped : tie.Need-add-wrapped Inv-loop2 μ-loop2 Inv-loop μ-loop
 add-wrapped c = omega (arith, at-less (c .before), step-less (c .before), at-most _ (size (c .before)))
 
--- src/imdct.rt:99:21
 wrapped-requires : tie.Need-wrapped-requires Inv-loop2 μ-loop2 Inv-loop μ-loop
 wrapped-requires c κs = omega (arith, at-less (c .before), step-less (c .before))
 
--- src/imdct.rt:99:13
 mul-at : tie.Need-mul-at Inv-loop2 μ-loop2 Inv-loop μ-loop
 mul-at c = search needs
 
--- src/imdct.rt:99:13
 array-write-at : tie.Need-array-write-at Inv-loop2 μ-loop2 Inv-loop μ-loop
 array-write-at c = search needs
 
--- src/imdct.rt:96:13
 add-j : tie.Need-add-j Inv-loop2 μ-loop2 Inv-loop μ-loop
 add-j c = search needs
 
--- src/imdct.rt:96:9
 loop2-less : tie.Need-loop2-less Inv-loop2 μ-loop2 Inv-loop μ-loop
 loop2-less c = search needs
 
--- src/imdct.rt:96:9
 loop2-again : tie.Need-loop2-again Inv-loop2 μ-loop2 Inv-loop μ-loop
 loop2-again c =
     let d = c .before .before in
@@ -222,15 +193,12 @@ loop2-again c =
           (omega (arith, ap length (l .inv .2), length-tab (sums (n d) (a .x .now) (a .t) (l .k)) 8)),
     )
 
--- src/imdct.rt:94:9
 add-k : tie.Need-add-k Inv-loop2 μ-loop2 Inv-loop μ-loop
 add-k c = search needs
 
--- src/imdct.rt:94:5
 loop-less : tie.Need-loop-less Inv-loop2 μ-loop2 Inv-loop μ-loop
 loop-less c = search needs
 
--- src/imdct.rt:94:5
 loop-again : tie.Need-loop-again Inv-loop2 μ-loop2 Inv-loop μ-loop
 loop-again c =
     let l = c .before .before .before .before .before .loop in
@@ -238,7 +206,6 @@ loop-again c =
     let e : l2 .j ≡ 8 = search needs in
     (search needs, lanes-all _ _ 0 _ _ 8 _ (l2 .inv .3) (l .inv .1) e, lanes-all _ _ nan _ _ 8 _ (l2 .inv .4) (l .inv .2) e)
 
--- src/imdct.rt:83:1
 returns : tie.Need-returns Inv-loop2 μ-loop2 Inv-loop μ-loop
 unfolding imdctSum
 returns c =
