@@ -1,11 +1,11 @@
 -- What one input adds to one output, read off the circle.
-use mathlib.Core.Path.{_≡_, refl, ap, _∙_, sym}
+use mathlib.Core.Path.{_≡_, ap, _∙_}
 use mathlib.Core.List.{List}
 use Prim.Native.Nat.{ℕ, _+_, _*_, _/_, _<_}
 use native.Mathlib.Omega.{arith}
 use lib.ListN.{getD}
 use lib.Ieee.{Float, nan, binary64, mul}
-use Rattle.mdct.specs.Imdct.{angle, cosAt, imdctTerm}
+use Rattle.mdct.specs.Imdct.{cosAt, imdctTerm}
 use Rattle.mdct.specs.Circle.{IsCircle}
 use Rattle.mdct.proofs.Sizes.{Size, at-least}
 use Rattle.mdct.proofs.Angles.{place, place-less, on-circle}

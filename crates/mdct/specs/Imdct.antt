@@ -7,7 +7,7 @@ use native.Mathlib.Omega.{arith}
 use lib.Dec.{eqb, leb}
 use borrow.Author.Tests.{eq-eqb, ne-eqb}
 use lib.ListN.{length, getD}
-use lib.Ieee.{Float, nan, binary32, binary64, ofBits, mul, neg}
+use lib.Ieee.{Float, nan, binary64, ofBits, mul, neg}
 use Rattle.loops.specs.Sum.{sumTo}
 use Rattle.loops.specs.Front.{tab, length-tab}
 use Rattle.loops.specs.Pick.{pick-true, pick-false}

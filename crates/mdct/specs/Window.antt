@@ -1,5 +1,5 @@
 -- The window: W(n) = sin(pi/2 sin(pi/2 (n + 1/2) / 120)^2), its 120 rising values by their bits.
-use mathlib.Core.Path.{_≡_, refl, _∙_}
+use mathlib.Core.Path.{_≡_, refl}
 use mathlib.Core.List.{List, [], _∷_, map}
 use mathlib.Core.Bool.{cond}
 use Prim.Native.Nat.{ℕ, _-_}

@@ -53,28 +53,14 @@ fn wrapped(i: usize, w: usize) -> usize
     if i < w { i } else { i - w }
 }
 
-// Where on the circle the first cosine of each of eight outputs from t on stands.
-fn starts(n: usize, t: usize) -> [usize; 8]
-    requires { ⌜ (0 < n) × (n ≤ 960) × (t < 1920) ⌝ }
-    ensures { λ r. ⌜ r ≡ tab (λ j. (t + j + n / 2) % (4 * n)) 8 ⌝ }
+// Eight places on a circle of w steps, from first on, by steps further each.
+fn along(first: usize, by: usize, w: usize) -> [usize; 8]
+    requires { ⌜ (first < 8000) × (by ≤ 2) × (0 < w) ⌝ }
+    ensures { λ r. ⌜ r ≡ tab (λ j. (first + by * j) % w) 8 ⌝ }
 {
-    let w = 4 * n;
     let mut r = [0usize; 8];
     for j in 0..8 {
-        r[j] = (t + j + n / 2) % w;
-    }
-    r
-}
-
-// How far each of eight outputs from t on goes along the circle with each input.
-fn strides(n: usize, t: usize) -> [usize; 8]
-    requires { ⌜ (0 < n) × (n ≤ 960) × (t < 1920) ⌝ }
-    ensures { λ r. ⌜ r ≡ tab (λ j. (2 * (t + j) + 1 + n) % (4 * n)) 8 ⌝ }
-{
-    let w = 4 * n;
-    let mut r = [0usize; 8];
-    for j in 0..8 {
-        r[j] = (2 * (t + j) + 1 + n) % w;
+        r[j] = (first + by * j) % w;
     }
     r
 }
@@ -88,8 +74,8 @@ fn eight(circle: &[f64; 3840], x: &[f32], t: usize) -> [f64; 8]
 {
     let n = x.len();
     let w = 4 * n;
-    let step = strides(n, t);
-    let mut at = starts(n, t);
+    let step = along(2 * t + 1 + n, 2, w);
+    let mut at = along(t + n / 2, 1, w);
     let mut acc = [0.0f64; 8];
     for k in 0..n {
         let v = f32_to_f64(x[k]);

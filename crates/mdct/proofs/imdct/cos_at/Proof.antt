@@ -1,71 +1,52 @@
-use mathlib.Core.Path.{_≡_, refl, ap, _∙_, sym}
-use mathlib.Core.List.{List, [], _∷_, _++_}
-use mathlib.Core.Logic.{⊎-elim}
-use Prim.Native.Nat.{ℕ, zero, suc, _+_, _≤_, _<_, _-_}
-use native.Mathlib.Omega.{arith}
-use native.Mathlib.Numerals.{add-one}
-use lib.ListN.{length, getD, set, take, drop, length-set}
+-- `imdct::cos_at` meets its contract: one quadrant for each arm.
+use mathlib.Core.Path.{ap, _∙_, sym}
+use Prim.Native.Nat.{_-_}
+use lib.ListN.{getD}
 use borrow.Author.Needs.{needs}
 use lib.Ieee.{nan, neg}
 use Rattle.mdct.proofs.Quadrants.{first, second, third, fourth}
 use Rattle.mdct.proofs.imdct.cos_at.Statement.{statement}
 use Rattle.mdct.proofs.imdct.cos_at.Tie as tie
-use Rattle.mdct.proofs.imdct.cos_at.Reads as reads
-use Rattle.mdct.proofs.imdct.cos_at.Lts as lts
 
--- src/imdct.rt:18:9
 mul-result : tie.Need-mul-result
 mul-result c = search needs
 
--- src/imdct.rt:18:9
 element-copy-out-result : tie.Need-element-copy-out-result
 element-copy-out-result c = search needs
 
--- src/imdct.rt:20:10
 mul-result-2 : tie.Need-mul-result-2
 mul-result-2 c = search needs
 
--- src/imdct.rt:20:10
 element-copy-out-result-2 : tie.Need-element-copy-out-result-2
 element-copy-out-result-2 c = search needs
 
--- src/imdct.rt:22:12
 sub-result : tie.Need-sub-result
 sub-result c = search needs
 
--- src/imdct.rt:22:10
 mul-result-3 : tie.Need-mul-result-3
 mul-result-3 c = search needs
 
--- src/imdct.rt:22:10
 element-copy-out-result-3 : tie.Need-element-copy-out-result-3
 element-copy-out-result-3 c = search needs
 
--- src/imdct.rt:24:11
 sub-result-2 : tie.Need-sub-result-2
 sub-result-2 c = search needs
 
--- src/imdct.rt:24:9
 mul-result-4 : tie.Need-mul-result-4
 mul-result-4 c = search needs
 
--- src/imdct.rt:24:9
 element-copy-out-result-4 : tie.Need-element-copy-out-result-4
 element-copy-out-result-4 c = search needs
 
--- src/imdct.rt:12:1
 returns : tie.Need-returns
 returns c = let a = c .before .before in ap (λ z. getD z (a .args .j) nan) (a .pre .0) ∙ sym (first _ (search needs))
 
--- src/imdct.rt:12:1
 returns-2 : tie.Need-returns-2
 returns-2 c = let a = c .before .before .before in ap (λ z. neg (getD z (3840 - a .args .j) nan)) (a .pre .0) ∙ sym (second _ (search needs) (search needs))
 
--- src/imdct.rt:12:1
 returns-3 : tie.Need-returns-3
 returns-3 c = let a = c .before .before .before .before in ap (λ z. neg (getD z (a .args .j - 3840) nan)) (a .pre .0) ∙ sym (third _ (search needs) (search needs))
 
--- src/imdct.rt:12:1
 returns-4 : tie.Need-returns-4
 returns-4 c = let a = c .before .before .before .before in ap (λ z. getD z (7680 - a .args .j) nan) (a .pre .0) ∙ sym (fourth _ (search needs))
 

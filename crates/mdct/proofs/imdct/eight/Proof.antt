@@ -1,13 +1,12 @@
-use mathlib.Core.Path.{_≡_, refl, ap, _∙_, sym}
-use mathlib.Core.List.{List, [], _∷_, _++_}
-use mathlib.Core.Logic.{⊎-elim}
-use Prim.Native.Nat.{ℕ, zero, suc, _+_, _*_, _/_, _%_, _≤_, _<_, _-_}
+-- `imdct::eight` meets its contract. With each input every output moves to its next place on the circle, and its sum gets one more term.
+use mathlib.Core.Path.{_≡_, ap, _∙_}
+use mathlib.Core.List.{List}
+use Prim.Native.Nat.{ℕ, _+_, _*_, _/_, _%_, _≤_, _<_, _-_}
 use native.Mathlib.Omega.{arith}
 use native.Mathlib.Nat.{mod-lt}
-use native.Mathlib.Numerals.{add-one}
-use lib.ListN.{length, getD, set, take, drop, length-set}
+use lib.ListN.{length, getD, length-set}
 use borrow.Author.Needs.{needs}
-use lib.Ieee.{Float, nan, binary64, ofBits, add, mul}
+use lib.Ieee.{Float, nan, binary64, ofBits, add}
 use Rattle.loops.specs.Front.{front, tab, tab-none, tab-more, tab-same, length-tab, getD-tab}
 use Rattle.loops.specs.Sum.{sumTo, sum-none, sum-more}
 use Rattle.mdct.specs.Imdct.{imdctTerm, imdctSum}
@@ -17,12 +16,6 @@ use Rattle.mdct.proofs.Fronts.{lane, lanes-all, tab-const}
 use Rattle.mdct.proofs.Terms.{term-is}
 use Rattle.mdct.proofs.imdct.eight.Statement.{statement}
 use Rattle.mdct.proofs.imdct.eight.Tie as tie
-use Rattle.mdct.proofs.imdct.eight.Reads as reads
-use Rattle.mdct.proofs.imdct.eight.Lts as lts
-use Rattle.float_bits.proofs.formats.f32_to_f64.Reads as f32-to-f64-reads
-use Rattle.mdct.proofs.imdct.starts.Reads as starts-reads
-use Rattle.mdct.proofs.imdct.strides.Reads as strides-reads
-use Rattle.mdct.proofs.imdct.wrapped.Reads as wrapped-reads
 
 -- where output t reads its cosine for input k, and its sum of the inputs before k, for eight outputs
 abbrev places : ℕ → ℕ → ℕ → ℕ → ℕ
@@ -44,163 +37,168 @@ Inv-loop circle x t n w step at₀ acc₀ k₀ at acc k = (k ≤ n) × (at ≡ t
 abbrev μ-loop : tie.MeasureT-loop
 μ-loop circle x t n w step at₀ acc₀ k₀ at acc k = n - k
 
+known : (c : tie.Start Inv-loop2 μ-loop2 Inv-loop μ-loop) → (120 ≤ length (c .args .x .now)) × (length (c .args .x .now) ≤ 960) × (c .args .t < 1920)
+known c = let z = sized _ (c .pre .1 .0) in (at-least _ z, at-most _ z, c .pre .1 .1)
+
 -- what a turn of the inner loop goes by
+abbrev entry : tie.In-loop2 Inv-loop2 μ-loop2 Inv-loop μ-loop → tie.Start Inv-loop2 μ-loop2 Inv-loop μ-loop
+entry c = c .before .before .before .before .before .before .before .before .before
+
+abbrev outer : tie.In-loop2 Inv-loop2 μ-loop2 Inv-loop μ-loop → tie.At-loop Inv-loop2 μ-loop2 Inv-loop μ-loop
+outer c = c .before .before .before .before .before
+
+abbrev step : tie.In-loop2 Inv-loop2 μ-loop2 Inv-loop μ-loop → ℕ
+step c = getD (c .before .before .before .before .before .before .before .along .result) (c .before .loop2 .j) 0
+
+abbrev at : tie.In-loop2 Inv-loop2 μ-loop2 Inv-loop μ-loop → ℕ
+at c = getD (c .before .loop2 .at) (c .before .loop2 .j) 0
+
+abbrev n : tie.In-loop2 Inv-loop2 μ-loop2 Inv-loop μ-loop → ℕ
+n c = length (entry c .args .x .now)
+
+abbrev t : tie.In-loop2 Inv-loop2 μ-loop2 Inv-loop μ-loop → ℕ
+t c = entry c .args .t + c .before .loop2 .j
+
 module _ (c : tie.In-loop2 Inv-loop2 μ-loop2 Inv-loop μ-loop) where
-  size : Size (length (c .before .before .before .before .before .before .before .before .before .args .x .now))
-  size = sized _ (c .before .before .before .before .before .before .before .before .before .pre .1 .0)
+  size : Size (n c)
+  size = sized _ (entry c .pre .1 .0)
 
-  here :
-      getD (c .before .loop2 .at) (c .before .loop2 .j) 0
-      ≡ place (length (c .before .before .before .before .before .before .before .before .before .args .x .now)) (c .before .before .before .before .before .before .before .before .before .args .t + c .before .loop2 .j) (c .before .before .before .before .before .loop .k)
-  here = lane (places (length (c .before .before .before .before .before .before .before .before .before .args .x .now)) (c .before .before .before .before .before .before .before .before .before .args .t) (c .before .before .before .before .before .loop .k)) _ 0 _ _ 8 _ (c .before .loop2 .inv .3) (c .before .before .before .before .before .loop .inv .1) (search needs)
+  at-is : at c ≡ place (n c) (t c) (outer c .loop .k)
+  at-is = lane (places (n c) (entry c .args .t) (outer c .loop .k)) _ 0 _ _ 8 _ (c .before .loop2 .inv .3) (outer c .loop .inv .1) (search needs)
 
-  onward :
-      getD (c .before .before .before .before .before .before .before .strides .result) (c .before .loop2 .j) 0
-      ≡ (2 * (c .before .before .before .before .before .before .before .before .before .args .t + c .before .loop2 .j) + 1 + length (c .before .before .before .before .before .before .before .before .before .args .x .now)) % (4 * length (c .before .before .before .before .before .before .before .before .before .args .x .now))
-  onward = ap (λ z. getD z (c .before .loop2 .j) 0) (c .before .before .before .before .before .before .before .strides .ensures) ∙ getD-tab _ 8 _ 0 (search needs)
+  step-is : step c ≡ (2 * t c + 1 + n c) % (4 * n c)
+  step-is =
+      let e : 2 * entry c .args .t + 1 + n c + 2 * c .before .loop2 .j ≡ 2 * t c + 1 + n c = omega arith in
+      ap (λ z. getD z (c .before .loop2 .j) 0) (c .before .before .before .before .before .before .before .along .ensures)
+      ∙ getD-tab _ 8 _ 0 (search needs) ∙ ap (λ z. z % (4 * n c)) e
 
-  in-circle : getD (c .before .loop2 .at) (c .before .loop2 .j) 0 < 4 * length (c .before .before .before .before .before .before .before .before .before .args .x .now)
-  in-circle = omega (arith, here, place-less (length (c .before .before .before .before .before .before .before .before .before .args .x .now)) (c .before .before .before .before .before .before .before .before .before .args .t + c .before .loop2 .j) (c .before .before .before .before .before .loop .k) (omega (arith, at-least _ size)))
+  at-less : at c < 4 * n c
+  at-less = omega (arith, at-is, place-less (n c) (t c) (outer c .loop .k) (omega (arith, at-least _ size)))
 
-  in-turn : getD (c .before .before .before .before .before .before .before .strides .result) (c .before .loop2 .j) 0 < 4 * length (c .before .before .before .before .before .before .before .before .before .args .x .now)
-  in-turn = omega (arith, onward, mod-lt (2 * (c .before .before .before .before .before .before .before .before .before .args .t + c .before .loop2 .j) + 1 + length (c .before .before .before .before .before .before .before .before .before .args .x .now)) {m = 4 * length (c .before .before .before .before .before .before .before .before .before .args .x .now)} (omega (arith, at-least _ size)))
+  step-less : step c < 4 * n c
+  step-less = omega (arith, step-is, mod-lt (2 * t c + 1 + n c) {m = 4 * n c} (omega (arith, at-least _ size)))
 
--- src/imdct.rt:90:13
 mul-w : tie.Need-mul-w Inv-loop2 μ-loop2 Inv-loop μ-loop
-mul-w c = let z = sized _ (c .before .pre .1 .0) in omega (arith, at-most _ z)
+mul-w c = omega (arith, known (c .before))
 
--- src/imdct.rt:91:16
-strides-requires : tie.Need-strides-requires Inv-loop2 μ-loop2 Inv-loop μ-loop
-strides-requires c κs = let z = sized _ (c .before .pre .1 .0) in (omega (arith, at-least _ z), at-most _ z, c .before .pre .1 .1)
+mul-along : tie.Need-mul-along Inv-loop2 μ-loop2 Inv-loop μ-loop
+mul-along c = omega (arith, known (c .before))
 
--- src/imdct.rt:92:18
-starts-requires : tie.Need-starts-requires Inv-loop2 μ-loop2 Inv-loop μ-loop
-starts-requires c κs = let z = sized _ (c .before .before .pre .1 .0) in (omega (arith, at-least _ z), at-most _ z, c .before .before .pre .1 .1)
+add-along : tie.Need-add-along Inv-loop2 μ-loop2 Inv-loop μ-loop
+add-along c = omega (arith, known (c .before))
 
--- src/imdct.rt:94:5
+add-along-2 : tie.Need-add-along-2 Inv-loop2 μ-loop2 Inv-loop μ-loop
+add-along-2 c = omega (arith, known (c .before))
+
+along-requires : tie.Need-along-requires Inv-loop2 μ-loop2 Inv-loop μ-loop
+along-requires c κs = omega (arith, known (c .before))
+
+add-along-3 : tie.Need-add-along-3 Inv-loop2 μ-loop2 Inv-loop μ-loop
+add-along-3 c = omega (arith, known (c .before .before))
+
+along-requires-2 : tie.Need-along-requires-2 Inv-loop2 μ-loop2 Inv-loop μ-loop
+along-requires-2 c κs = omega (arith, known (c .before .before))
+
 loop-holds : tie.Need-loop-holds Inv-loop2 μ-loop2 Inv-loop μ-loop
 loop-holds c =
     let a = c .before .before .before in
     let z = sized _ (a .pre .1 .0) in (
       search needs,
-      c .starts .ensures ∙ tab-same _ _ 8 (λ j h. place-none (length (a .args .x .now)) (a .args .t + j) (even _ z)),
+      c .along2 .ensures
+          ∙ tab-same _ _ 8 (λ j h. let e : a .args .t + length (a .args .x .now) / 2 + 1 * j ≡ a .args .t + j + length (a .args .x .now) / 2 = omega arith in ap (λ y. y % (4 * length (a .args .x .now))) e ∙ place-none (length (a .args .x .now)) (a .args .t + j) (even _ z)),
       tab-const (sums (length (a .args .x .now)) (a .args .x .now) (a .args .t) 0) (ofBits binary64 0) 8 (λ i h. sum-none _ _ _),
     )
 
--- src/imdct.rt:95:28
 mul-f32-to-f64 : tie.Need-mul-f32-to-f64 Inv-loop2 μ-loop2 Inv-loop μ-loop
 mul-f32-to-f64 c = search needs
 
--- src/imdct.rt:95:28
 shared-slice-read-f32-to-f64 :
     tie.Need-shared-slice-read-f32-to-f64 Inv-loop2 μ-loop2 Inv-loop μ-loop
 shared-slice-read-f32-to-f64 c = search needs
 
--- src/imdct.rt:95:13
 f32-to-f64-requires : tie.Need-f32-to-f64-requires Inv-loop2 μ-loop2 Inv-loop μ-loop
 f32-to-f64-requires c κs = search needs
 
--- src/imdct.rt:96:9
 loop2-holds : tie.Need-loop2-holds Inv-loop2 μ-loop2 Inv-loop μ-loop
 loop2-holds c =
     let l = c .before .before .before .loop in
     (search needs, ap length (l .inv .1) ∙ length-tab _ 8, ap length (l .inv .2) ∙ length-tab _ 8, tab-none _ _, tab-none _ _)
 
--- src/imdct.rt:97:21
 mul-i : tie.Need-mul-i Inv-loop2 μ-loop2 Inv-loop μ-loop
 mul-i c = search needs
 
--- src/imdct.rt:97:21
 array-read-i : tie.Need-array-read-i Inv-loop2 μ-loop2 Inv-loop μ-loop
 array-read-i c = search needs
 
--- src/imdct.rt:98:22
 mul-acc : tie.Need-mul-acc Inv-loop2 μ-loop2 Inv-loop μ-loop
 mul-acc c = search needs
 
--- src/imdct.rt:98:22
 array-read-acc : tie.Need-array-read-acc Inv-loop2 μ-loop2 Inv-loop μ-loop
 array-read-acc c = search needs
 
--- src/imdct.rt:98:35
 mul-acc-2 : tie.Need-mul-acc-2 Inv-loop2 μ-loop2 Inv-loop μ-loop
-mul-acc-2 c = omega (arith, in-circle c, at-most _ (size c))
+mul-acc-2 c = omega (arith, at-less c, at-most _ (size c))
 
--- src/imdct.rt:98:35
 element-copy-out-acc : tie.Need-element-copy-out-acc Inv-loop2 μ-loop2 Inv-loop μ-loop
-element-copy-out-acc c = omega (arith, in-circle c, at-most _ (size c))
+element-copy-out-acc c = omega (arith, at-less c, at-most _ (size c))
 
--- src/imdct.rt:98:13
 mul-acc-3 : tie.Need-mul-acc-3 Inv-loop2 μ-loop2 Inv-loop μ-loop
 mul-acc-3 c = search needs
 
--- src/imdct.rt:98:13
 array-write-acc : tie.Need-array-write-acc Inv-loop2 μ-loop2 Inv-loop μ-loop
 array-write-acc c = search needs
 
--- src/imdct.rt:99:33
 mul-wrapped : tie.Need-mul-wrapped Inv-loop2 μ-loop2 Inv-loop μ-loop
 mul-wrapped c = search needs
 
--- src/imdct.rt:99:33
 array-read-wrapped : tie.Need-array-read-wrapped Inv-loop2 μ-loop2 Inv-loop μ-loop
 array-read-wrapped c = search needs
 
--- src/imdct.rt:99:29
 add-wrapped : tie.Need-add-wrapped Inv-loop2 μ-loop2 Inv-loop μ-loop
-add-wrapped c = omega (arith, in-circle (c .before), in-turn (c .before), at-most _ (size (c .before)))
+add-wrapped c = omega (arith, at-less (c .before), step-less (c .before), at-most _ (size (c .before)))
 
--- src/imdct.rt:99:21
 wrapped-requires : tie.Need-wrapped-requires Inv-loop2 μ-loop2 Inv-loop μ-loop
-wrapped-requires c κs = omega (arith, in-circle (c .before), in-turn (c .before))
+wrapped-requires c κs = omega (arith, at-less (c .before), step-less (c .before))
 
--- src/imdct.rt:99:13
 mul-at : tie.Need-mul-at Inv-loop2 μ-loop2 Inv-loop μ-loop
 mul-at c = search needs
 
--- src/imdct.rt:99:13
 array-write-at : tie.Need-array-write-at Inv-loop2 μ-loop2 Inv-loop μ-loop
 array-write-at c = search needs
 
--- src/imdct.rt:96:13
 add-j : tie.Need-add-j Inv-loop2 μ-loop2 Inv-loop μ-loop
 add-j c = search needs
 
--- src/imdct.rt:96:9
 loop2-less : tie.Need-loop2-less Inv-loop2 μ-loop2 Inv-loop μ-loop
 loop2-less c = search needs
 
--- src/imdct.rt:96:9
 loop2-again : tie.Need-loop2-again Inv-loop2 μ-loop2 Inv-loop μ-loop
 loop2-again c =
     let d = c .before .before in
     let l2 = d .before .loop2 in
-    let l = d .before .before .before .before .before .loop in
-    let a = d .before .before .before .before .before .before .before .before .before .args in
-    let onto : c .wrapped .result ≡ place (length (a .x .now)) (a .t + l2 .j) (l .k + 1) =
+    let l = outer d .loop in
+    let a = entry d .args in
+    let onto : c .wrapped .result ≡ place (n d) (t d) (l .k + 1) =
     c .wrapped .ensures
-    ∙ ap (λ z. (z + getD (d .before .before .before .before .before .before .before .strides .result) (l2 .j) 0) % (4 * length (a .x .now))) (here d)
-    ∙ ap (λ z. (place (length (a .x .now)) (a .t + l2 .j) (l .k) + z) % (4 * length (a .x .now))) (onward d)
-    ∙ place-more (length (a .x .now)) (a .t + l2 .j) (l .k) (omega (arith, at-least _ (size d))) in
-    let term = term-is (length (a .x .now)) _ _ _ _ _ _ (size d) (d .before .before .before .before .before .before .before .before .before .pre .0) (d .before .before .f32-to-f64 .ensures) (here d) in
-    let so-far = lane (sums (length (a .x .now)) (a .x .now) (a .t) (l .k)) _ nan _ _ 8 _ (l2 .inv .4) (l .inv .2) (search needs) in (
+    ∙ ap (λ z. (z + step d) % (4 * n d)) (at-is d)
+    ∙ ap (λ z. (place (n d) (t d) (l .k) + z) % (4 * n d)) (step-is d)
+    ∙ place-more (n d) (t d) (l .k) (omega (arith, at-least _ (size d))) in
+    let term = term-is (n d) _ _ _ _ _ _ (size d) (entry d .pre .0) (d .before .before .f32-to-f64 .ensures) (at-is d) in
+    let so-far = lane (sums (n d) (a .x .now) (a .t) (l .k)) _ nan _ _ 8 _ (l2 .inv .4) (l .inv .2) (search needs) in (
       search needs,
       simp length-set (search needs),
       simp length-set (search needs),
-      tab-more _ 0 _ _ _ (l2 .inv .3) _ onto (omega (arith, ap length (l .inv .1), length-tab (places (length (a .x .now)) (a .t) (l .k)) 8)),
+      tab-more _ 0 _ _ _ (l2 .inv .3) _ onto (omega (arith, ap length (l .inv .1), length-tab (places (n d) (a .t) (l .k)) 8)),
       tab-more _ nan _ _ _ (l2 .inv .4) _ (ap (add binary64 _) term ∙ sum-more _ _ _ _ _ so-far)
-          (omega (arith, ap length (l .inv .2), length-tab (sums (length (a .x .now)) (a .x .now) (a .t) (l .k)) 8)),
+          (omega (arith, ap length (l .inv .2), length-tab (sums (n d) (a .x .now) (a .t) (l .k)) 8)),
     )
 
--- src/imdct.rt:94:9
 add-k : tie.Need-add-k Inv-loop2 μ-loop2 Inv-loop μ-loop
 add-k c = search needs
 
--- src/imdct.rt:94:5
 loop-less : tie.Need-loop-less Inv-loop2 μ-loop2 Inv-loop μ-loop
 loop-less c = search needs
 
--- src/imdct.rt:94:5
 loop-again : tie.Need-loop-again Inv-loop2 μ-loop2 Inv-loop μ-loop
 loop-again c =
     let l = c .before .before .before .before .before .loop in
@@ -208,7 +206,6 @@ loop-again c =
     let e : l2 .j ≡ 8 = search needs in
     (search needs, lanes-all _ _ 0 _ _ 8 _ (l2 .inv .3) (l .inv .1) e, lanes-all _ _ nan _ _ 8 _ (l2 .inv .4) (l .inv .2) e)
 
--- src/imdct.rt:83:1
 returns : tie.Need-returns Inv-loop2 μ-loop2 Inv-loop μ-loop
 unfolding imdctSum
 returns c =
@@ -226,8 +223,12 @@ eight-spec =
     Inv-loop
     μ-loop
     mul-w
-    strides-requires
-    starts-requires
+    mul-along
+    add-along
+    add-along-2
+    along-requires
+    add-along-3
+    along-requires-2
     loop-holds
     mul-f32-to-f64
     shared-slice-read-f32-to-f64

@@ -1,22 +1,16 @@
-use mathlib.Core.Path.{_≡_, refl, ap, _∙_, sym}
-use mathlib.Core.List.{List, [], _∷_, _++_}
-use mathlib.Core.Logic.{⊎-elim}
-use Prim.Native.Nat.{ℕ, zero, suc, _+_, _*_, _/_, _%_, _≤_, _<_, _-_}
+-- `imdct::outputs` meets its contract: the first t outputs are written, t being a multiple of 8.
+use mathlib.Core.Path.{_≡_, ap, _∙_}
+use Prim.Native.Nat.{_+_, _*_, _%_, _≤_, _-_}
 use native.Mathlib.Omega.{arith}
-use native.Mathlib.Numerals.{add-one}
-use lib.ListN.{length, getD, set, take, drop, length-set}
+use lib.ListN.{length, getD}
 use borrow.Author.Needs.{needs}
-use lib.Ieee.{Float, nan}
+use lib.Ieee.{nan}
 use Rattle.loops.specs.Front.{front, tab, tab-none, tab-all, getD-tab}
-use Rattle.mdct.specs.Imdct.{halfOf, imdctSum, imdctAt, imdct}
+use Rattle.mdct.specs.Imdct.{halfOf, imdctAt, imdct}
 use Rattle.mdct.proofs.Sizes.{sized, at-most, eights, next-eight}
 use Rattle.mdct.proofs.Fronts.{rest-all}
 use Rattle.mdct.proofs.imdct.outputs.Statement.{statement}
 use Rattle.mdct.proofs.imdct.outputs.Tie as tie
-use Rattle.mdct.proofs.imdct.outputs.Reads as reads
-use Rattle.mdct.proofs.imdct.outputs.Lts as lts
-use Rattle.mdct.proofs.imdct.eight.Reads as eight-reads
-use Rattle.mdct.proofs.imdct.halves.Reads as halves-reads
 
 abbrev Inv-loop : tie.InvT-loop
 Inv-loop circle x out₀ m t₀ out t = (t ≤ m) × (t % 8 ≡ 0) × (length out ≡ m) × (out ≡ front (tab (imdctAt (length x) x) t) out₀ t)
@@ -31,27 +25,21 @@ room c =
     let m = c .before .before .before .before .pre .1 .1 in
     (next-eight _ _ (c .before .loop .inv .1) (eights _ z) (omega arith), at-most _ z, m)
 
--- src/imdct.rt:123:5
 loop-holds : tie.Need-loop-holds Inv-loop μ-loop
 loop-holds c = (search needs, search needs, search needs, tab-none _ _)
 
--- src/imdct.rt:124:20
 eight-requires : tie.Need-eight-requires Inv-loop μ-loop
 eight-requires c κs = let a = c .before .before .before .before in (a .pre .0, (a .pre .1 .0, omega (arith, room c)))
 
--- src/imdct.rt:125:9
 halves-requires : tie.Need-halves-requires Inv-loop μ-loop
 halves-requires c κs = omega (arith, room (c .before .before .before))
 
--- src/imdct.rt:126:9
 add-t : tie.Need-add-t Inv-loop μ-loop
 add-t c = omega (arith, room (c .before .before .before .before .before .before))
 
--- src/imdct.rt:123:5
 loop-less : tie.Need-loop-less Inv-loop μ-loop
 loop-less c = search needs
 
--- src/imdct.rt:123:5
 loop-again : tie.Need-loop-again Inv-loop μ-loop
 unfolding imdctAt
 loop-again c =
@@ -63,11 +51,9 @@ loop-again c =
           ∙ rest-all _ _ _ _ _ 8 (l .inv .3) (λ j h. ap halfOf (ap (λ z. getD z j nan) (c .before .before .before .before .before .eight .ensures) ∙ getD-tab _ 8 j nan h)),
     )
 
--- src/imdct.rt:115:1
 same-length : tie.Need-same-length Inv-loop μ-loop
 same-length c = search needs
 
--- src/imdct.rt:115:1
 returns : tie.Need-returns Inv-loop μ-loop
 unfolding imdct
 returns c =

@@ -1,54 +1,37 @@
-use mathlib.Core.Path.{_≡_, refl, ap, _∙_, sym}
-use mathlib.Core.List.{List, [], _∷_, _++_}
-use mathlib.Core.Logic.{⊎-elim}
-use Prim.Native.Nat.{ℕ, zero, suc, _+_, _≤_, _<_, _-_}
-use native.Mathlib.Omega.{arith}
-use native.Mathlib.Numerals.{add-one}
-use lib.ListN.{length, getD, set, take, drop, length-set}
+-- `window::low_overlap_window` meets its contract: by the tests on the way to each return.
 use borrow.Author.Needs.{needs}
 use borrow.Author.Tests.{lt-ltb, le-ltb}
 use Rattle.mdct.specs.Window.{lowOverlapWindow}
 use Rattle.mdct.proofs.window.low_overlap_window.Statement.{statement}
 use Rattle.mdct.proofs.window.low_overlap_window.Tie as tie
-use Rattle.mdct.proofs.window.low_overlap_window.Reads as reads
-use Rattle.mdct.proofs.window.low_overlap_window.Lts as lts
 
--- src/window.rt:140:16
 mul-result : tie.Need-mul-result
 mul-result c = search needs
 
--- src/window.rt:140:16
 element-copy-out-result : tie.Need-element-copy-out-result
 element-copy-out-result c = search needs
 
--- src/window.rt:140:9
 returns : tie.Need-returns
 unfolding lowOverlapWindow
 returns c = simp (lt-ltb _ _ (c .before .if1 .taken))
 
--- src/window.rt:143:9
 returns-2 : tie.Need-returns-2
 unfolding lowOverlapWindow
 returns-2 c = simp (le-ltb _ _ (c .before .if1 .left), lt-ltb _ _ (c .if2 .taken))
 
--- src/window.rt:146:18
 sub-result : tie.Need-sub-result
 sub-result c = search needs
 
--- src/window.rt:146:16
 mul-result-2 : tie.Need-mul-result-2
 mul-result-2 c = search needs
 
--- src/window.rt:146:16
 element-copy-out-result-2 : tie.Need-element-copy-out-result-2
 element-copy-out-result-2 c = search needs
 
--- src/window.rt:146:9
 returns-3 : tie.Need-returns-3
 unfolding lowOverlapWindow
 returns-3 c = simp (le-ltb _ _ (c .before .before .before .if1 .left), le-ltb _ _ (c .before .before .if2 .left), lt-ltb _ _ (c .before .if3 .taken))
 
--- src/window.rt:136:1
 returns-4 : tie.Need-returns-4
 unfolding lowOverlapWindow
 returns-4 c = simp (le-ltb _ _ (c .before .before .if1 .left), le-ltb _ _ (c .before .if2 .left), le-ltb _ _ (c .if3 .left))
