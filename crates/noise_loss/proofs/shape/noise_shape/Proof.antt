@@ -1,11 +1,14 @@
 use mathlib.Core.Path.{_≡_, refl, ap, _∙_, sym}
 use mathlib.Core.List.{List, [], _∷_, _++_}
 use mathlib.Core.Logic.{⊎-elim}
-use Prim.Native.Nat.{ℕ, zero, suc, _+_, _≤_, _<_, _-_}
+use Prim.Native.Nat.{ℕ, zero, suc, _+_, _≤_, _<_, _-_, _*_, _/_, _%_}
 use native.Mathlib.Omega.{arith}
 use native.Mathlib.Numerals.{add-one}
 use lib.ListN.{length, getD, set, take, drop, length-set}
 use borrow.Author.Needs.{needs}
+use Rattle.noise_loss.specs.Shape.{lo, width, band-in, Shape, noiseTurn, noiseShape, bandNoise}
+use Rattle.loops.specs.Fold.{foldRange, range-none, range-end}
+use Rattle.noise_loss.proofs.Laws.{noise-more}
 use Rattle.noise_loss.proofs.shape.noise_shape.Statement.{statement}
 use Rattle.noise_loss.proofs.shape.noise_shape.Tie as tie
 use Rattle.noise_loss.proofs.shape.noise_shape.Reads as reads
@@ -14,14 +17,29 @@ use Rattle.custom_mode.proofs.standard.band_edge.Reads as band-edge-reads
 use Rattle.noise_loss.proofs.shape.band_noise.Reads as band-noise-reads
 
 abbrev Inv-loop : tie.InvT-loop
-Inv-loop bins₀ m start seed s₀ i₀ bins s i = ?
+Inv-loop bins₀ m start seed s₀ i₀ bins s i =
+    (start ≤ i) × (i ≤ 21) × (length bins ≡ length bins₀) × (foldRange (noiseTurn m) (record { bins = bins₀; seed = s₀ }) start i ≡ record { bins = bins; seed = s })
 
 abbrev μ-loop : tie.MeasureT-loop
-μ-loop bins₀ m start seed s₀ i₀ bins s i = ?
+μ-loop bins₀ m start seed s₀ i₀ bins s i =
+    21 - i
+
+-- the band lies within the bins
+ends : (c : tie.After-band-edge2 Inv-loop μ-loop) → (c .before .before .before .before .before .args .m * c .before .band-edge .result ≤ c .before .before .before .before .before .args .m * c .band-edge2 .result)
+    × (c .before .before .before .before .before .args .m * c .band-edge2 .result ≤ c .before .before .before .before .before .args .m * 100)
+ends c =
+    let n = c .before .before in
+    let i = n .before .loop .i in
+    let m = n .before .before .before .args .m in
+    let e : m * c .before .band-edge .result ≡ lo m i = ap (λ z. m * z) (c .before .band-edge .ensures) in
+    let f : m * c .band-edge2 .result ≡ lo m (i + 1) = ap (λ z. m * z) (c .band-edge2 .ensures) in
+    let v = band-in m i (omega arith) in
+    (omega arith, omega arith)
 
 -- src/shape.rt:25:5
 loop-holds : tie.Need-loop-holds Inv-loop μ-loop
-loop-holds c = search needs
+loop-holds c =
+    (search needs, search needs, search needs, range-none _ _ _ _ (omega arith))
 
 -- src/shape.rt:26:21
 band-edge-requires : tie.Need-band-edge-requires Inv-loop μ-loop
@@ -29,7 +47,12 @@ band-edge-requires c κs = search needs
 
 -- src/shape.rt:26:17
 mul-a : tie.Need-mul-a Inv-loop μ-loop
-mul-a c = search needs
+mul-a c =
+    let i = c .before .before .loop .i in
+    let m = c .before .before .before .before .args .m in
+    let e : m * c .band-edge .result ≡ lo m i = ap (λ z. m * z) (c .band-edge .ensures) in
+    let v = band-in m i (omega arith) in
+    search needs
 
 -- src/shape.rt:27:31
 add-band-edge : tie.Need-add-band-edge Inv-loop μ-loop
@@ -41,23 +64,28 @@ band-edge-requires-2 c κs = search needs
 
 -- src/shape.rt:27:17
 mul-e : tie.Need-mul-e Inv-loop μ-loop
-mul-e c = search needs
+mul-e c =
+    let v = ends c in search needs
 
 -- src/shape.rt:28:24
 mul-band-noise : tie.Need-mul-band-noise Inv-loop μ-loop
-mul-band-noise c = search needs
+mul-band-noise c =
+    let v = ends c in search needs
 
 -- src/shape.rt:28:24
 sub-band-noise : tie.Need-sub-band-noise Inv-loop μ-loop
-sub-band-noise c = search needs
+sub-band-noise c =
+    let v = ends c in search needs
 
 -- src/shape.rt:28:24
 part-band-noise-start : tie.Need-part-band-noise-start Inv-loop μ-loop
-part-band-noise-start c = search needs
+part-band-noise-start c =
+    let v = ends c in search needs
 
 -- src/shape.rt:28:24
 part-band-noise-end : tie.Need-part-band-noise-end Inv-loop μ-loop
-part-band-noise-end c = search needs
+part-band-noise-end c =
+    let v = ends c in search needs
 
 -- src/shape.rt:28:9
 band-noise-requires : tie.Need-band-noise-requires Inv-loop μ-loop
@@ -73,7 +101,8 @@ loop-less c = search needs
 
 -- src/shape.rt:25:5
 loop-again : tie.Need-loop-again Inv-loop μ-loop
-loop-again c = search needs
+loop-again c =
+    ?
 
 -- src/shape.rt:20:1
 same-length : tie.Need-same-length Inv-loop μ-loop
@@ -81,7 +110,8 @@ same-length c = search needs
 
 -- src/shape.rt:20:1
 returns : tie.Need-returns Inv-loop μ-loop
-returns c = search needs
+returns c =
+    ?
 
 pub noise-shape-spec : {M : Type 1} → statement M
 noise-shape-spec =
