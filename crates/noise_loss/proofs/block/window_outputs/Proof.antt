@@ -76,8 +76,18 @@ loop-less c = search needs
 
 -- src/block.rt:21:5
 loop-again : tie.Need-loop-again Inv-loop μ-loop
+unfolding windowed
 loop-again c =
-    ?
+    let h = c .before .before .before .before .loop in
+    let a = c .before .before .before .before .before .before .before .before .args in
+    let two = mul binary32 (ofBits binary32 0x4000_0000) (getD (a .u .now) ((a .n - 120) / 2 + h .j) nan) in
+    let r : mul binary32 two (c .low-overlap-window .result) ≡ windowed (a .n) (a .u .now) (h .j) =
+    ap (mul binary32 two) (c .low-overlap-window .ensures ∙ ap (λ z. lowOverlapWindow z (a .n) (h .j)) (c .before .before .before .before .before .window .ensures)) in (
+      search needs,
+      simp length-set (search needs),
+      search needs,
+      tab-more (windowed (a .n) (a .u .now)) nan (a .block .now) (h .block) (h .j) (h .inv .3) _ r (omega arith),
+    )
 
 -- src/block.rt:14:1
 same-length : tie.Need-same-length Inv-loop μ-loop
@@ -86,7 +96,9 @@ same-length c = search needs
 -- src/block.rt:14:1
 returns : tie.Need-returns Inv-loop μ-loop
 returns c =
-    ?
+    let h = c .before .loop in
+    let a = c .before .before .before .before .before .args in
+    tab-all (windowed (a .n) (a .u .now)) nan (a .block .now) (h .block) (h .j) (h .inv .3) (omega arith) ∙ ap (tab (windowed (a .n) (a .u .now))) (h .inv .2)
 
 pub window-outputs-spec : {M : Type 1} → statement M
 window-outputs-spec =

@@ -83,7 +83,7 @@ loop-again c =
 -- src/history.rt:17:5
 loop2-holds : tie.Need-loop2-holds Inv-loop μ-loop Inv-loop2 μ-loop2
 loop2-holds c =
-    (search needs, search needs, search needs, copy-none _ _)
+    (search needs, search needs, search needs, copy-none (c .before .before .args .block .now) (c .before .loop .tail))
 
 -- src/history.rt:18:19
 mul-tail-4 : tie.Need-mul-tail-4 Inv-loop μ-loop Inv-loop2 μ-loop2

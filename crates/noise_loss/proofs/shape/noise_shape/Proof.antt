@@ -1,4 +1,4 @@
-use mathlib.Core.Path.{_≡_, refl, ap, _∙_, sym}
+use mathlib.Core.Path.{_≡_, refl, ap, ap₂, _∙_, sym}
 use mathlib.Core.List.{List, [], _∷_, _++_}
 use mathlib.Core.Logic.{⊎-elim}
 use Prim.Native.Nat.{ℕ, zero, suc, _+_, _≤_, _<_, _-_, _*_, _/_, _%_}
@@ -9,6 +9,7 @@ use borrow.Author.Needs.{needs}
 use Rattle.noise_loss.specs.Shape.{lo, width, band-in, Shape, noiseTurn, noiseShape, bandNoise}
 use Rattle.loops.specs.Fold.{foldRange, range-none, range-end}
 use Rattle.noise_loss.proofs.Laws.{noise-more}
+use borrow.Rule.Slice.PartMut.{midOf, mid-len, same-len-mid}
 use Rattle.noise_loss.proofs.shape.noise_shape.Statement.{statement}
 use Rattle.noise_loss.proofs.shape.noise_shape.Tie as tie
 use Rattle.noise_loss.proofs.shape.noise_shape.Reads as reads
@@ -102,7 +103,25 @@ loop-less c = search needs
 -- src/shape.rt:25:5
 loop-again : tie.Need-loop-again Inv-loop μ-loop
 loop-again c =
-    ?
+    let n = c .before .before .band-noise in
+    let b = c .before .before .before .before in
+    let l = c .before .before .before .before .before .before .before in
+    let h = l .loop in
+    let a = l .before .before .args in
+    let m = a .m in
+    let s = m * b .before .band-edge .result in
+    let e = m * b .band-edge2 .result in
+    let v = ends b in
+    let es : s ≡ lo m (h .i) = ap (λ z. m * z) (b .before .band-edge .ensures) in
+    let ee : e ≡ lo m (h .i + 1) = ap (λ z. m * z) (b .band-edge2 .ensures) in
+    let z : length (midOf s (e - s) (h .bins)) ≡ e - s = mid-len s e (h .bins) (omega arith) in
+    (
+      search needs,
+      search needs,
+      same-len-mid s (e - s) (h .bins) (n .last .0) (n .kept .0) ∙ h .inv .2,
+      noise-more m (a .start) (h .i) (e - s) s (length (midOf s (e - s) (h .bins))) (h .s) (n .result) _ (h .bins) (n .last .0)
+          (h .inv .3) (h .inv .0) es (ap₂ _-_ ee es) z (n .ensures .1) (n .ensures .0),
+    )
 
 -- src/shape.rt:20:1
 same-length : tie.Need-same-length Inv-loop μ-loop
@@ -110,8 +129,14 @@ same-length c = search needs
 
 -- src/shape.rt:20:1
 returns : tie.Need-returns Inv-loop μ-loop
+unfolding noiseShape
 returns c =
-    ?
+    let h = c .before .loop in
+    let a = c .before .before .before .args in
+    let z : Shape = record { bins = a .bins .now; seed = a .seed } in
+    let e : 21 ≡ h .i = omega arith in
+    let r : foldRange (noiseTurn (a .m)) z (a .start) 21 ≡ record { bins = h .bins; seed = h .s } = ap (foldRange (noiseTurn (a .m)) z (a .start)) e ∙ h .inv .3 in
+    (sym (ap (λ (q : Shape). q .seed) r), sym (ap (λ (q : Shape). q .bins) r))
 
 pub noise-shape-spec : {M : Type 1} → statement M
 noise-shape-spec =

@@ -1,4 +1,4 @@
-use mathlib.Core.Path.{_≡_, refl, ap, _∙_, sym}
+use mathlib.Core.Path.{_≡_, refl, ap, ap₂, _∙_, sym}
 use mathlib.Core.List.{List, [], _∷_, _++_}
 use mathlib.Core.Logic.{⊎-elim}
 use Prim.Native.Nat.{ℕ, zero, suc, _+_, _≤_, _<_, _-_, _*_, _/_, _%_}
@@ -10,6 +10,10 @@ use Rattle.noise_loss.specs.Shape.{lo, width, band-in}
 use Rattle.noise_loss.specs.Spectrum.{gainOf, gainTurn}
 use Rattle.loops.specs.Fold.{foldRange, range-none, range-end}
 use Rattle.noise_loss.proofs.Laws.{gains-more}
+use lib.Ieee.{nan, binary32, ofBits, add}
+use Rattle.float_bits.specs.Extremes.{minOf}
+use Rattle.custom_mode.specs.Gain.{bandGain}
+use borrow.Rule.Slice.PartMut.{midOf, mid-len, same-len-mid}
 use Rattle.noise_loss.proofs.spectrum.apply_gains.Statement.{statement}
 use Rattle.noise_loss.proofs.spectrum.apply_gains.Tie as tie
 use Rattle.noise_loss.proofs.spectrum.apply_gains.Reads as reads
@@ -120,8 +124,29 @@ loop-less c = search needs
 
 -- src/spectrum.rt:36:5
 loop-again : tie.Need-loop-again Inv-loop μ-loop
+unfolding gainOf
 loop-again c =
-    ?
+    let n = c .before .before .scale in
+    let b = c .before .before .before .before in
+    let l = c .before .before .before .before .before .before .before .before .before .before in
+    let h = l .loop in
+    let a = l .before .before .before .args in
+    let m = a .m in
+    let s = m * b .before .band-edge .result in
+    let e = m * b .band-edge2 .result in
+    let v = ends b in
+    let es : s ≡ lo m (h .i) = ap (λ z. m * z) (b .before .band-edge .ensures) in
+    let ee : e ≡ lo m (h .i + 1) = ap (λ z. m * z) (b .band-edge2 .ensures) in
+    let z : length (midOf s (e - s) (h .bins)) ≡ e - s = mid-len s e (h .bins) (omega arith) in
+    let u = b .before .before in
+    let g : u .band-gain .result ≡ gainOf (a .energies .now) (h .i) =
+    u .band-gain .ensures ∙ ap (λ x. bandGain (minOf (add binary32 (getD (a .energies .now) (h .i) nan) x) (ofBits binary32 0x4200_0000))) (u .before .mean-energy .ensures) in (
+      search needs,
+      search needs,
+      same-len-mid s (e - s) (h .bins) (n .last .0) (n .kept .0) ∙ h .inv .2,
+      gains-more m (a .start) (h .i) (e - s) s (u .band-gain .result) (a .energies .now) (a .bins .now) (h .bins) (n .last .0)
+          (h .inv .3) (h .inv .0) es (ap₂ _-_ ee es) g (n .ensures),
+    )
 
 -- src/spectrum.rt:32:1
 same-length : tie.Need-same-length Inv-loop μ-loop
@@ -130,7 +155,10 @@ same-length c = search needs
 -- src/spectrum.rt:32:1
 returns : tie.Need-returns Inv-loop μ-loop
 returns c =
-    ?
+    let h = c .before .loop in
+    let a = c .before .before .before .before .args in
+    let e : h .i ≡ a .end = omega arith in
+    h .inv .3 ∙ ap (foldRange (gainTurn (a .m) (a .energies .now)) (a .bins .now) (a .start)) e
 
 pub apply-gains-spec : {M : Type 1} → statement M
 apply-gains-spec =

@@ -25,7 +25,7 @@ abbrev μ-loop : tie.MeasureT-loop
 -- src/spectrum.rt:26:5
 loop-holds : tie.Need-loop-holds Inv-loop μ-loop
 loop-holds c =
-    (search needs, search needs, fill-none _ _)
+    (search needs, search needs, fill-none zero32 (c .args .part .now))
 
 -- src/spectrum.rt:27:9
 mul-part : tie.Need-mul-part Inv-loop μ-loop

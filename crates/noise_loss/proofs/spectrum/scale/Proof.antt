@@ -26,7 +26,7 @@ abbrev μ-loop : tie.MeasureT-loop
 -- src/spectrum.rt:17:5
 loop-holds : tie.Need-loop-holds Inv-loop μ-loop
 loop-holds c =
-    (search needs, search needs, map-none _ _)
+    (search needs, search needs, map-none (times (c .args .g)) (c .args .part .now))
 
 -- src/spectrum.rt:18:19
 mul-part : tie.Need-mul-part Inv-loop μ-loop
