@@ -63,9 +63,9 @@ noise-more m start i k a len s s' z bins y e h ea ek el ey es =
     let w : len ≡ width m i = el ∙ ek in
     sym (range-more (noiseTurn m) z (record { bins = bins; seed = s }) start i (sym e) h)
     ∙ ap₂ (λ (b : List Float) (r : ℕ). record { bins = b; seed = r })
-      (ap₂ (λ p q. take p bins ++ (bandNoise (width m i) s ++ drop q (drop p bins))) (sym ea) (sym ek)
-      ∙ ap (λ v. take a bins ++ (v ++ drop k (drop a bins))) (sym (ey ∙ ap (λ n. bandNoise n s) w)))
-      (sym (es ∙ ap (λ n. draws n s) w))
+    (ap₂ (λ p q. take p bins ++ (bandNoise (width m i) s ++ drop q (drop p bins))) (sym ea) (sym ek)
+    ∙ ap (λ v. take a bins ++ (v ++ drop k (drop a bins))) (sym (ey ∙ ap (λ n. bandNoise n s) w)))
+    (sym (es ∙ ap (λ n. draws n s) w))
 
 -- one more band times its gain
 pub gains-more : (m start i k a : ℕ) (g : Float) (energies bins₀ bins y : List Float)
@@ -147,5 +147,5 @@ module _ (block tail₀ tail : List Float) (j : ℕ) (e : tail ≡ front (take 1
   copy-all first over w q =
       front-all nan tail₀ tail (take 120 tail₀ ++ slice 120 j block) j e (size (omega arith)) (omega arith)
       ∙ ap₂ (λ x y. x ++ drop 120 y)
-        (ap (take 120) w ∙ take-at (tab (sumAt block over) 120) (drop 120 first) 120 (length-tab (sumAt block over) 120))
-        (take-all j block (omega arith))
+      (ap (take 120) w ∙ take-at (tab (sumAt block over) 120) (drop 120 first) 120 (length-tab (sumAt block over) 120))
+      (take-all j block (omega arith))

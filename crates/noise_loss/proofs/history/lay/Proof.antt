@@ -76,9 +76,12 @@ loop-less c = search needs
 loop-again : tie.Need-loop-again Inv-loop μ-loop Inv-loop2 μ-loop2
 loop-again c =
     let h = c .before .before .before .loop in
-    let a = c .before .before .before .before .args in
-    (search needs, simp length-set (search needs), tab-more (sumAt (a .block .now) (drop (a .n) (a .tail .now))) nan (a .tail .now) (h .tail) (h .j) (h .inv .2) _
-    (sum-at (a .n) (h .j) (a .block .now) (a .tail .now) (h .tail) (h .inv .2)) (omega arith))
+    let a = c .before .before .before .before .args in (
+      search needs,
+      simp length-set (search needs),
+      tab-more (sumAt (a .block .now) (drop (a .n) (a .tail .now))) nan (a .tail .now) (h .tail) (h .j) (h .inv .2) _
+          (sum-at (a .n) (h .j) (a .block .now) (a .tail .now) (h .tail) (h .inv .2)) (omega arith),
+    )
 
 -- src/history.rt:17:5
 loop2-holds : tie.Need-loop2-holds Inv-loop μ-loop Inv-loop2 μ-loop2

@@ -114,8 +114,7 @@ loop-again c =
     let v = ends b in
     let es : s ≡ lo m (h .i) = ap (λ z. m * z) (b .before .band-edge .ensures) in
     let ee : e ≡ lo m (h .i + 1) = ap (λ z. m * z) (b .band-edge2 .ensures) in
-    let z : length (midOf s (e - s) (h .bins)) ≡ e - s = mid-len s e (h .bins) (omega arith) in
-    (
+    let z : length (midOf s (e - s) (h .bins)) ≡ e - s = mid-len s e (h .bins) (omega arith) in (
       search needs,
       search needs,
       same-len-mid s (e - s) (h .bins) (n .last .0) (n .kept .0) ∙ h .inv .2,
