@@ -1,5 +1,5 @@
 -- One turn of each loop.
-use mathlib.Core.Path.{_≡_, refl, ap, _∙_, sym}
+use mathlib.Core.Path.{_≡_, ap, _∙_, sym}
 use mathlib.Core.List.{List, map}
 use Prim.Native.Nat.{ℕ, _+_, _*_, _%_, _^_, _<_}
 use native.Mathlib.Omega.{arith}

@@ -1,7 +1,6 @@
 -- The marked draws from seed 0, and both ends of the noise value.
 use mathlib.Core.Path.{_≡_, refl}
-use mathlib.Core.List.{List, [], _∷_}
-use Prim.Native.Nat.{ℕ}
+use mathlib.Core.List.{[], _∷_}
 use lib.IntN.{ℤ, pos, negsuc}
 use lib.Ieee.{Float, ofInt, binary32}
 use Rattle.loops.specs.Front.{tab}

@@ -1,34 +1,14 @@
 -- The edges rise to 100, and the bands from one on to the last have as many bins as are left of 100.
 use mathlib.Core.Path.{_≡_, refl, ap, _∙_, sym}
-use mathlib.Core.Bool.{Bool, true, false, _&&_}
+use mathlib.Core.Bool.{Bool, _&&_}
 use Prim.Native.Nat.{ℕ, zero, suc, _+_, _*_, _-_, _≤_, _<_}
 use native.Mathlib.Nat.{mul-add, mul-zero}
 use native.Mathlib.Omega.{arith}
-use lib.Dec.{leb, eqb}
-use borrow.Author.Tests.{leb-true, eqb-true, eqb-false}
+use lib.Dec.{leb}
+use borrow.Author.Tests.{leb-true}
 use Rattle.band_quant.specs.Draw.{draws, draws-none, draws-add}
+use Rattle.custom_mode.specs.Below.{below, below-at, and-true}
 use Rattle.custom_mode.specs.Mode.{edges, edge}
-
--- a test at every number below n
-unfoldable pub below : (ℕ → Bool) → ℕ → Bool
-below p zero = true
-below p (suc n) = p n && below p n
-
-pub and-true : (a b : Bool) → (a && b) ≡ true → (a ≡ true) × (b ≡ true)
-and-true true b e = (refl, e)
-and-true false b e = (e, (cc))
-
-pub below-at : (p : ℕ → Bool) (n i : ℕ) → below p n ≡ true → i < n → p i ≡ true
-unfolding below
-below-at p zero i e h = let z : ⊥ = omega arith in absurd z
-below-at p (suc n) i e h = go (below-at p n i (here .1)) (eqb i n) refl
-  where
-    here : (p n ≡ true) × (below p n ≡ true)
-    here = and-true (p n) (below p n) e
-
-    go : (i < n → p i ≡ true) → (b : Bool) → eqb i n ≡ b → p i ≡ true
-    go f true q = ap p (eqb-true i n q) ∙ here .0
-    go f false q = f (omega (arith, eqb-false i n q))
 
 rise : ℕ → Bool
 rise i = leb (edge i) (edge (i + 1)) && leb (edge (i + 1)) 100

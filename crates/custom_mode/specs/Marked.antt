@@ -1,6 +1,5 @@
 -- The marked gains, and the rates' factors.
 use mathlib.Core.Path.{_≡_, refl}
-use Prim.Native.Nat.{ℕ}
 use lib.Ieee.{Float, nan, binary32, ofBits, neg, add, sub, mul, div, le, lt, eq, isNan, ofInt}
 use Rattle.float_bits.specs.Extremes.{minOf}
 use Rattle.float_bits.specs.Formats.{narrow}

@@ -1,12 +1,12 @@
 -- Each entry of the table is the f64 nearest to 2 ^ (i / 256).
 use mathlib.Core.Path.{_≡_, refl}
-use mathlib.Core.Bool.{Bool, true, _&&_}
+use mathlib.Core.Bool.{Bool, _&&_}
 use Prim.Native.Nat.{ℕ, _+_, _*_, _-_, _^_, _/_, _%_, _<_}
 use lib.ListN.{getD}
 use lib.Dec.{ltb, eqb}
 use borrow.Author.Tests.{ltb-true, eqb-true}
 use Rattle.custom_mode.specs.Powers.{powerBits}
-use Rattle.custom_mode.specs.Bands.{below, below-at, and-true}
+use Rattle.custom_mode.specs.Below.{below, below-at, and-true}
 
 -- twice the significand of an f64 from 1 up to 2
 abbrev pub twice : ℕ → ℕ

@@ -1,5 +1,4 @@
 -- The factor by which a rate in Hz is below 48,000, where there is one.
-use mathlib.Core.Path.{_≡_, refl}
 use mathlib.Core.Bool.{Bool, true, false}
 use Prim.Native.Nat.{ℕ}
 use lib.Dec.{eqb}

@@ -1,6 +1,6 @@
 // The gain of a band, from the f32 sum of its energy and its mean.
 ghost use mathlib.Core.Path.{_≡_};
-ghost use mathlib.Core.Bool.{true};
+ghost use mathlib.Core.Bool.{false};
 ghost use Prim.Native.Nat.{_+_, _*_, _/_, _%_, _<_, _≤_};
 ghost use lib.Dec.{T};
 ghost use lib.Ieee.{fin, minus, fits, ofInt, ofBits, add, binary32, binary64};

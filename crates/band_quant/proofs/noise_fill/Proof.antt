@@ -1,10 +1,6 @@
-use mathlib.Core.Path.{_≡_, refl, ap, _∙_, sym}
-use mathlib.Core.List.{List, [], _∷_, _++_}
-use mathlib.Core.Logic.{⊎-elim}
-use Prim.Native.Nat.{ℕ, zero, suc, _+_, _≤_, _<_, _-_}
-use native.Mathlib.Omega.{arith}
-use native.Mathlib.Numerals.{add-one}
-use lib.ListN.{length, getD, set, take, drop, length-set}
+use mathlib.Core.Path.{_≡_, ap, _∙_, sym}
+use Prim.Native.Nat.{_≤_, _-_}
+use lib.ListN.{length, length-set}
 use borrow.Author.Needs.{needs}
 use Rattle.loops.specs.Front.{front, tab, tab-none, tab-all}
 use lib.Ieee.{nan}
@@ -13,10 +9,6 @@ use Rattle.band_quant.proofs.Turn.{seed-more, noise-more}
 use Rattle.band_quant.specs.Noise.{noiseAt, noiseBand}
 use Rattle.band_quant.proofs.noise_fill.Statement.{statement}
 use Rattle.band_quant.proofs.noise_fill.Tie as tie
-use Rattle.band_quant.proofs.noise_fill.Reads as reads
-use Rattle.band_quant.proofs.noise_fill.Lts as lts
-use Rattle.band_quant.proofs.celt_lcg_rand.Reads as celt-lcg-rand-reads
-use Rattle.float_bits.proofs.words.noise_value.Reads as noise-value-reads
 
 abbrev Inv-loop : tie.InvT-loop
 Inv-loop x₀ seed n s₀ i₀ x s i =
@@ -25,46 +17,36 @@ Inv-loop x₀ seed n s₀ i₀ x s i =
 abbrev μ-loop : tie.MeasureT-loop
 μ-loop x₀ seed n s₀ i₀ x s i = n - i
 
--- src/lib.rt:21:5
 loop-holds : tie.Need-loop-holds Inv-loop μ-loop
 loop-holds c = (search needs, search needs, sym (draws-none _), tab-none _ _)
 
--- src/lib.rt:22:9
 celt-lcg-rand-requires : tie.Need-celt-lcg-rand-requires Inv-loop μ-loop
 celt-lcg-rand-requires c κs = search needs
 
--- src/lib.rt:23:16
 noise-value-requires : tie.Need-noise-value-requires Inv-loop μ-loop
 noise-value-requires c κs = search needs
 
--- src/lib.rt:23:9
 mul-x : tie.Need-mul-x Inv-loop μ-loop
 mul-x c = search needs
 
--- src/lib.rt:23:9
 slice-write-x : tie.Need-slice-write-x Inv-loop μ-loop
 slice-write-x c = search needs
 
--- src/lib.rt:21:9
 add-i : tie.Need-add-i Inv-loop μ-loop
 add-i c = search needs
 
--- src/lib.rt:21:5
 loop-less : tie.Need-loop-less Inv-loop μ-loop
 loop-less c = search needs
 
--- src/lib.rt:21:5
 loop-again : tie.Need-loop-again Inv-loop μ-loop
 loop-again c =
     let l = c .before .before .before .loop in
     let d = seed-more _ _ _ (l .i) (l .inv .2) (c .before .celt-lcg-rand .ensures) in
     (search needs, simp length-set (search needs), d, noise-more _ _ (l .i) _ _ _ d (c .noise-value .ensures) (l .inv .3) (search needs))
 
--- src/lib.rt:16:1
 same-length : tie.Need-same-length Inv-loop μ-loop
 same-length c = search needs
 
--- src/lib.rt:16:1
 returns : tie.Need-returns Inv-loop μ-loop
 unfolding noiseBand
 returns c =

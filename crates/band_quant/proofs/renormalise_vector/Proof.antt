@@ -1,10 +1,7 @@
-use mathlib.Core.Path.{_≡_, refl, ap, _∙_, sym}
-use mathlib.Core.List.{List, map}
-use mathlib.Core.Logic.{⊎-elim}
-use Prim.Native.Nat.{ℕ, zero, suc, _+_, _≤_, _<_, _-_}
-use native.Mathlib.Omega.{arith}
-use native.Mathlib.Numerals.{add-one}
-use lib.ListN.{length, getD, set, take, drop, length-set}
+use mathlib.Core.Path.{_≡_, refl, sym}
+use mathlib.Core.List.{map}
+use Prim.Native.Nat.{_≤_, _-_}
+use lib.ListN.{length, take, length-set}
 use borrow.Author.Needs.{needs}
 use lib.Ieee.{nan}
 use Rattle.loops.specs.Front.{front, front-none, map-all}
@@ -13,11 +10,6 @@ use Rattle.band_quant.specs.Renormalise.{energyTo, factorOf, renormalise
 use Rattle.band_quant.proofs.Turn.{energy-more, factor-is, scale-more}
 use Rattle.band_quant.proofs.renormalise_vector.Statement.{statement}
 use Rattle.band_quant.proofs.renormalise_vector.Tie as tie
-use Rattle.band_quant.proofs.renormalise_vector.Reads as reads
-use Rattle.band_quant.proofs.renormalise_vector.Lts as lts
-use Rattle.float_bits.proofs.formats.f32_to_f64.Reads as f32-to-f64-reads
-use Rattle.float_bits.proofs.formats.f64_to_f32.Reads as f64-to-f32-reads
-use Rattle.float_bits.proofs.root.sqrt_f32.Reads as sqrt-f32-reads
 
 abbrev Inv-loop : tie.InvT-loop
 Inv-loop x gain n e₀ i₀ e i = (i ≤ n) × (e ≡ energyTo x i)
@@ -31,44 +23,34 @@ Inv-loop2 x₀ gain n e g i₀ x i = (i ≤ n) × (length x ≡ n) × (g ≡ fac
 abbrev μ-loop2 : tie.MeasureT-loop2
 μ-loop2 x₀ gain n e g i₀ x i = n - i
 
--- src/lib.rt:34:5
 loop-holds : tie.Need-loop-holds Inv-loop μ-loop Inv-loop2 μ-loop2
 unfolding energyTo
 loop-holds c = (search needs, sym (sum-none _ _ _))
 
--- src/lib.rt:35:49
 mul-f32-to-f64 : tie.Need-mul-f32-to-f64 Inv-loop μ-loop Inv-loop2 μ-loop2
 mul-f32-to-f64 c = search needs
 
--- src/lib.rt:35:49
 slice-read-f32-to-f64 : tie.Need-slice-read-f32-to-f64 Inv-loop μ-loop Inv-loop2 μ-loop2
 slice-read-f32-to-f64 c = search needs
 
--- src/lib.rt:35:13
 f32-to-f64-requires : tie.Need-f32-to-f64-requires Inv-loop μ-loop Inv-loop2 μ-loop2
 f32-to-f64-requires c κs = search needs
 
--- src/lib.rt:34:9
 add-i : tie.Need-add-i Inv-loop μ-loop Inv-loop2 μ-loop2
 add-i c = search needs
 
--- src/lib.rt:34:5
 loop-less : tie.Need-loop-less Inv-loop μ-loop Inv-loop2 μ-loop2
 loop-less c = search needs
 
--- src/lib.rt:34:5
 loop-again : tie.Need-loop-again Inv-loop μ-loop Inv-loop2 μ-loop2
 loop-again c = (search needs, energy-more _ _ _ _ (c .before .before .before .loop .inv .1) (c .f32-to-f64 .ensures))
 
--- src/lib.rt:38:47
 f64-to-f32-requires : tie.Need-f64-to-f32-requires Inv-loop μ-loop Inv-loop2 μ-loop2
 f64-to-f32-requires c κs = search needs
 
--- src/lib.rt:38:20
 sqrt-f32-requires : tie.Need-sqrt-f32-requires Inv-loop μ-loop Inv-loop2 μ-loop2
 sqrt-f32-requires c κs = search needs
 
--- src/lib.rt:39:5
 loop2-holds : tie.Need-loop2-holds Inv-loop μ-loop Inv-loop2 μ-loop2
 loop2-holds c =
     let l = c .before .before .before .loop in
@@ -79,41 +61,32 @@ loop2-holds c =
       front-none _,
     )
 
--- src/lib.rt:40:16
 mul-x : tie.Need-mul-x Inv-loop μ-loop Inv-loop2 μ-loop2
 mul-x c = search needs
 
--- src/lib.rt:40:16
 slice-read-x : tie.Need-slice-read-x Inv-loop μ-loop Inv-loop2 μ-loop2
 slice-read-x c = search needs
 
--- src/lib.rt:40:9
 mul-x-2 : tie.Need-mul-x-2 Inv-loop μ-loop Inv-loop2 μ-loop2
 mul-x-2 c = search needs
 
--- src/lib.rt:40:9
 slice-write-x : tie.Need-slice-write-x Inv-loop μ-loop Inv-loop2 μ-loop2
 slice-write-x c = search needs
 
--- src/lib.rt:39:9
 add-i-2 : tie.Need-add-i-2 Inv-loop μ-loop Inv-loop2 μ-loop2
 add-i-2 c = search needs
 
--- src/lib.rt:39:5
 loop2-less : tie.Need-loop2-less Inv-loop μ-loop Inv-loop2 μ-loop2
 loop2-less c = search needs
 
--- src/lib.rt:39:5
 loop2-again : tie.Need-loop2-again Inv-loop μ-loop Inv-loop2 μ-loop2
 loop2-again c =
     let l = c .before .before .loop2 in
     (search needs, simp length-set (search needs), l .inv .2, scale-more _ _ _ _ (l .i) (l .inv .2) (l .inv .3) (search needs))
 
--- src/lib.rt:29:1
 same-length : tie.Need-same-length Inv-loop μ-loop Inv-loop2 μ-loop2
 same-length c = search needs
 
--- src/lib.rt:29:1
 returns : tie.Need-returns Inv-loop μ-loop Inv-loop2 μ-loop2
 unfolding renormaliseVector
 returns c = map-all _ nan _ _ (c .before .loop2 .i) (c .before .loop2 .inv .3) (search needs)

@@ -1,0 +1,211 @@
+// Each exported function beside the Rust's: same input, outputs compared, the least time of many.
+
+use std::hint::black_box;
+use std::time::Instant;
+
+#[allow(dead_code)]
+extern "C" {
+    fn leaf_celt_autocorr(x: *const f32, n: usize, ac: *mut f32, lags: usize) -> bool;
+    fn leaf_celt_autocorr_windowed(
+        x: *const f32,
+        n: usize,
+        window: *const f32,
+        overlap: usize,
+        ac: *mut f32,
+        lags: usize,
+    ) -> bool;
+    fn leaf_celt_lpc(lpc: *mut f32, p: usize, ac: *const f32, n: usize) -> bool;
+    fn leaf_celt_fir(
+        buf: *mut f32,
+        n: usize,
+        num: *const f32,
+        order: usize,
+        mem: *const f32,
+        reach: usize,
+    ) -> bool;
+    fn leaf_celt_iir(
+        buf: *mut f32,
+        n: usize,
+        den: *const f32,
+        order: usize,
+        mem: *const f32,
+        reach: usize,
+    ) -> bool;
+    fn leaf_pitch_downsample(x: *const f32, n: usize, x_lp: *mut f32, half: usize) -> bool;
+    fn leaf_pitch_downsample_stereo(
+        x: *const f32,
+        n: usize,
+        y: *const f32,
+        m: usize,
+        x_lp: *mut f32,
+        half: usize,
+    ) -> bool;
+    fn leaf_pitch_search(y: *const f32, n: usize) -> usize;
+    fn leaf_renormalise_vector(x: *mut f32, n: usize) -> bool;
+    fn leaf_imdct(spectrum: *const f32, n: usize, out: *mut f32, m: usize) -> bool;
+}
+
+/// Least time of a call, in ns; each call works on a fresh copy of the input.
+fn least(rounds: usize, input: &[f32], out: usize, mut f: impl FnMut(&mut [f32], &mut [f32])) -> (f64, Vec<f32>) {
+    let mut best = f64::INFINITY;
+    let mut result = vec![0f32; out];
+    for _ in 0..rounds {
+        let mut copy = black_box(input.to_vec());
+        let begin = Instant::now();
+        f(black_box(&mut copy), black_box(&mut result));
+        best = best.min(begin.elapsed().as_nanos() as f64);
+        if out == 0 {
+            result = Vec::new();
+        }
+        black_box(&copy);
+    }
+    (best, result)
+}
+
+fn row(name: &str, ours: (f64, Vec<f32>), theirs: (f64, Vec<f32>)) {
+    let same = words(&ours.1) == words(&theirs.1);
+    println!(
+        "{name}: {:.0} ns, Rust {:.0} ns, {:.2} times as fast{}",
+        ours.0,
+        theirs.0,
+        theirs.0 / ours.0,
+        if same { "" } else { ", UNLIKE" }
+    );
+}
+
+/// A voiced sound: pulses of one period through a decaying resonance, with some noise.
+fn sound(n: usize) -> Vec<f32> {
+    let mut seed = 7;
+    (0..n)
+        .map(|t| {
+            seed = band_quant::celt_lcg_rand(seed);
+            let at = (t % 173) as f64;
+            (8000.0 * 0.98f64.powf(at) * (0.11 * at).sin()) as f32 + (seed as i32 >> 24) as f32
+        })
+        .collect()
+}
+
+fn predictor(x: &[f32]) -> Vec<f32> {
+    let mut ac = [0f32; 25];
+    plc::celt_autocorr(x, &mut ac, None, 0);
+    let mut lpc = vec![0f32; 24];
+    plc::celt_lpc(&mut lpc, &ac);
+    lpc
+}
+
+fn main() {
+    let rounds: usize = std::env::args().nth(1).and_then(|n| n.parse().ok()).unwrap_or(200);
+    let x = sound(4096);
+    let window = mdct::build_window_half_f32(120);
+    let lpc = predictor(&x[..1024]);
+    let mem: Vec<f32> = x[1024..1048].to_vec();
+    let _ = (&window, &lpc, &mem);
+    #[cfg(leaf_celt_autocorr)]
+    row(
+        "celt_autocorr, 5 lags",
+        least(rounds, &x[..1024], 5, |x, ac| unsafe {
+            leaf_celt_autocorr(x.as_ptr(), x.len(), ac.as_mut_ptr(), ac.len());
+        }),
+        least(rounds, &x[..1024], 5, |x, ac| plc::celt_autocorr(x, ac, None, 0)),
+    );
+    #[cfg(leaf_celt_autocorr_windowed)]
+    row(
+        "celt_autocorr windowed, 25 lags",
+        least(rounds, &x[..1024], 25, |x, ac| unsafe {
+            let (w, n) = (window.as_ptr(), window.len());
+            leaf_celt_autocorr_windowed(x.as_ptr(), x.len(), w, n, ac.as_mut_ptr(), ac.len());
+        }),
+        least(rounds, &x[..1024], 25, |x, ac| plc::celt_autocorr(x, ac, Some(&window), 120)),
+    );
+    #[cfg(leaf_celt_lpc)]
+    {
+        let mut ac = vec![0f32; 25];
+        plc::celt_autocorr(&x[..1024], &mut ac, None, 0);
+        row(
+            "celt_lpc, order 24",
+            least(rounds, &ac, 24, |ac, lpc| unsafe {
+                leaf_celt_lpc(lpc.as_mut_ptr(), lpc.len(), ac.as_ptr(), ac.len());
+            }),
+            least(rounds, &ac, 24, |ac, lpc| plc::celt_lpc(lpc, ac)),
+        );
+    }
+    #[cfg(leaf_celt_fir)]
+    row(
+        "celt_fir_inplace, order 24",
+        least(rounds, &x[..1024], 1024, |x, out| unsafe {
+            leaf_celt_fir(x.as_mut_ptr(), x.len(), lpc.as_ptr(), 24, mem.as_ptr(), 24);
+            out.copy_from_slice(x);
+        }),
+        least(rounds, &x[..1024], 1024, |x, out| {
+            plc::celt_fir_inplace(x, &lpc, &mut mem.clone());
+            out.copy_from_slice(x);
+        }),
+    );
+    #[cfg(leaf_celt_iir)]
+    row(
+        "celt_iir_inplace, order 24, 1,200 samples",
+        least(rounds, &x[..1200], 1200, |x, out| unsafe {
+            leaf_celt_iir(x.as_mut_ptr(), x.len(), lpc.as_ptr(), 24, mem.as_ptr(), 24);
+            out.copy_from_slice(x);
+        }),
+        least(rounds, &x[..1200], 1200, |x, out| {
+            plc::celt_iir_inplace(x, &lpc, &mut mem.clone());
+            out.copy_from_slice(x);
+        }),
+    );
+    #[cfg(leaf_pitch_downsample)]
+    row(
+        "pitch_downsample, one channel",
+        least(rounds, &x[..2048], 1024, |x, out| unsafe {
+            leaf_pitch_downsample(x.as_ptr(), x.len(), out.as_mut_ptr(), out.len());
+        }),
+        least(rounds, &x[..2048], 1024, |x, out| plc::pitch_downsample(&[x], out)),
+    );
+    #[cfg(leaf_pitch_downsample_stereo)]
+    row(
+        "pitch_downsample, two channels",
+        least(rounds, &x, 1024, |x, out| unsafe {
+            let (a, b) = x.split_at(2048);
+            leaf_pitch_downsample_stereo(a.as_ptr(), 2048, b.as_ptr(), 2048, out.as_mut_ptr(), out.len());
+        }),
+        least(rounds, &x, 1024, |x, out| plc::pitch_downsample(&[&x[..2048], &x[2048..]], out)),
+    );
+    #[cfg(leaf_pitch_search)]
+    {
+        let mut y = vec![0f32; 1024];
+        plc::pitch_downsample(&[&x[..2048]], &mut y);
+        row(
+            "pitch_search",
+            least(rounds, &y, 1, |y, out| out[0] = unsafe { leaf_pitch_search(y.as_ptr(), y.len()) } as f32),
+            least(rounds, &y, 1, |y, out| out[0] = plc::pitch_search(&y[360..], y, 1328, 620) as f32),
+        );
+    }
+    #[cfg(leaf_renormalise_vector)]
+    row(
+        "renormalise_vector, width 176",
+        least(rounds, &x[..176], 176, |x, out| unsafe {
+            leaf_renormalise_vector(x.as_mut_ptr(), x.len());
+            out.copy_from_slice(x);
+        }),
+        least(rounds, &x[..176], 176, |x, out| {
+            band_quant::renormalise_vector(x, 1.0);
+            out.copy_from_slice(x);
+        }),
+    );
+    // The published transform's sum differs in the last place now and then; time is against it,
+    // equality against the stand-in.
+    #[cfg(leaf_imdct)]
+    for n in [120, 960] {
+        let spectrum = &x[..n];
+        let published = least(rounds, spectrum, 2 * n, |x, out| {
+            mdct::imdct_cached_f32(x, out);
+        });
+        let standin = least(1, spectrum, 2 * n, |x, out| {
+            standin::cosine_sum(x, out);
+        });
+        let ours = least(rounds, spectrum, 2 * n, |x, out| unsafe {
+            leaf_imdct(x.as_ptr(), x.len(), out.as_mut_ptr(), out.len());
+        });
+        row(&format!("cosine sum, N {n}, beside imdct_cached_f32"), ours, (published.0, standin.1));
+    }
+}

@@ -1,0 +1,103 @@
+"""Runs programs on the same input and says where their answers part."""
+import os
+import struct
+import subprocess
+from collections import Counter
+from pathlib import Path
+
+import cases as c
+import states as st
+
+HERE = Path(__file__).resolve().parent
+ROOT = HERE.parent
+RECORD = 4 * st.STATE
+
+
+def run(command, data):
+    done = subprocess.run(command, input=data, capture_output=True)
+    if done.returncode:
+        raise SystemExit(f"{command[0]}: exit status {done.returncode}\n"
+                         + done.stderr.decode(errors="replace")[-2000:])
+    return done.stdout
+
+
+def pack(case):
+    op, _, body = case
+    return struct.pack("<I", op) + (body.tobytes() if hasattr(body, "tobytes")
+                                    else struct.pack(f"<{len(body)}I", *body))
+
+
+class Tally:
+    """Counts per category, and every difference."""
+
+    def __init__(self):
+        self.seen, self.unlike, self.lines = Counter(), Counter(), []
+
+    def add(self, category, same, line):
+        self.seen[category] += 1
+        if not same:
+            self.unlike[category] += 1
+            self.lines.append(f"{category}: {line()}")
+
+    def total(self):
+        return sum(self.seen.values()), sum(self.unlike.values())
+
+
+def first_unlike(a, b):
+    """The first word in which two answers differ."""
+    if len(a) != len(b):
+        return f"{len(a)} bytes and {len(b)}"
+    at = next(i for i in range(0, len(a), 4) if a[i : i + 4] != b[i : i + 4])
+    return (f"word {at // 4} of {len(a) // 4}: "
+            f"{a[at:at+4][::-1].hex().upper()} and {b[at:at+4][::-1].hex().upper()}")
+
+
+def compare_cases(todo, left, right):
+    """Cases through two programs; `left` and `right` are commands."""
+    data = b"".join(map(pack, todo))
+    one, other = run(left, data), run(right, data)
+    tally, at = Tally(), 0
+    for n, (op, family, _) in enumerate(todo):
+        end = at + 4 * c.OPS[op][2]
+        a, b = one[at:end], other[at:end]
+        tally.add(f"{op} {family}", a == b and len(a) == end - at,
+                  lambda: f"case {n}, {first_unlike(a, b)}")
+        at = end
+    tally.add("whole answer's length", len(one) == at and len(one) == len(other),
+              lambda: f"{at} bytes owed, {len(one)} and {len(other)} came")
+    return tally
+
+
+def split_records(answers):
+    """The answers of whole records, one by one."""
+    at, out = 0, []
+    while at + 12 <= len(answers):
+        number, _, count = struct.unpack_from("<3I", answers, at)
+        end = at + 12 + 4 * count + (0 if number == 11 else RECORD)
+        out.append(answers[at:end])
+        at = end
+    return out
+
+
+def compare_records(todo, left, right, tally=None):
+    """Records (category, state) through two programs; gives the left's new records too."""
+    data = b"".join(s.tobytes() for _, s in todo)
+    one, other = run(left, data), run(right, data)
+    tally = tally or Tally()
+    ones, others = split_records(one), split_records(other)
+    for n, (category, _) in enumerate(todo):
+        a = ones[n] if n < len(ones) else b""
+        b = others[n] if n < len(others) else b""
+        tally.add(category, a == b and a, lambda: f"record {n}, {first_unlike(a, b)}")
+    tally.add("whole answer's length", len(one) == len(other), lambda: f"{len(one)}, {len(other)}")
+    return tally, [a[-RECORD:] for a in ones]
+
+
+def program(name, check=True):
+    """The path of a proved program of this repository, or None where there is no such crate."""
+    if not (ROOT / "crates" / name).is_dir():
+        return None
+    path = ROOT / "target" / "bin" / name
+    if check:
+        subprocess.run(["rt", "check", name], cwd=ROOT, stdout=subprocess.DEVNULL)
+    return path if os.access(path, os.X_OK) else None

@@ -1,0 +1,23 @@
+"""Inputs found by compare/hunt that tell a deliberately wrong build apart where ordinary ones don't.
+
+CASES: by op, places in the series `Cases.kept`; STATES: places in the series `States.kept`.
+SUMS: the only two sums, of all that have a gain, at which a last bit of the gain's table shows
+(entry 255, raised), found by going through all of them. TRUNCATED: sums whose gain differs where
+floor is taken as truncation."""
+
+# Five correlations each, on which the predictor's stop differs between f32 and f64.
+STOPS = [
+    [0x4E2D291A, 0x4E29D76C, 0x4E2D12CA, 0x4D8D82CD, 0xCC6FE5FB],
+    [0x4DD45472, 0xCDD198DA, 0x4DD438FF, 0x4CCE6DAD, 0xCC29CDAD],
+    [0x48E1FE01, 0xC8DDAF1A, 0x48D10992, 0xC7EDBD1F, 0x45C588D4],
+    [0x46472BCB, 0x46435A24, 0x46471221, 0xC3938F19, 0x44DE645F],
+]
+# States by number, and the first predictor coefficient at which the energy guard's answer differs
+# between f32 and f64.
+GUARDS = [(77, 0xBF7F1393), (233, 0xBF5A5603)]
+# Bands and log energies whose gain differs where floor is taken as truncation.
+ENERGIES = [(20, 0xC0720EEB), (0, 0xC0CF9B88), (0, 0xC0CF9F25), (20, 0xC07346D9)]
+CASES = {}
+STATES = []
+SUMS = [0xB338A6B0, 0xB4CFBF13]
+TRUNCATED = [0xBD03BAC0, 0xBD4DC400, 0xBD4F9280, 0xBD51B640, 0xBDAE0A80, 0xBDC665C0]

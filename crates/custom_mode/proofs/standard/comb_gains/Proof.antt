@@ -1,0 +1,20 @@
+use mathlib.Core.Path.{ap, sym}
+use Rattle.custom_mode.specs.Mode.{combGains}
+use Rattle.custom_mode.proofs.Tables.{comb-last}
+use Rattle.custom_mode.proofs.standard.comb_gains.Statement.{statement}
+use Rattle.custom_mode.proofs.standard.comb_gains.Tie as tie
+
+returns : tie.Need-returns
+unfolding combGains
+returns c = ap combGains (sym (c .match .keys1))
+
+returns-2 : tie.Need-returns-2
+unfolding combGains
+returns-2 c = ap combGains (sym (c .match .keys2))
+
+returns-3 : tie.Need-returns-3
+unfolding combGains
+returns-3 c = comb-last (c .before .args .tapset) (c .match .rest .0 .1) (c .match .rest .1)
+
+pub comb-gains-spec : {M : Type 1} → statement M
+comb-gains-spec = tie.close (tie.spec returns returns-2 returns-3)
