@@ -3,22 +3,17 @@ use Prim.Native.Nat.{ℕ, zero, suc, _+_, _*_, _^_, _≤_, _<_}
 use mathlib.Core.Path.{_≡_}
 use mathlib.Core.Bool.{Bool, cond}
 use lib.Ieee as Ieee
-use lib.Ieee.{binary32}
+use lib.Ieee.{Format, binary32, binary64, hid}
 
--- what an f64's fields stand for, in units of 2 ^ -1074
-abbrev pub sig : ℕ → ℕ → ℕ
-sig zero t = t
-sig (suc x) t = (2 ^ 52 + t) * 2 ^ x
+-- what a format's fields e and t stand for, in units of its smallest value
+abbrev pub significand : Format → ℕ → ℕ → ℕ
+significand f zero t = t
+significand f (suc x) t = (hid f + t) * 2 ^ x
 
 -- r is the bits, without the sign's, of the f32 nearest to what the fields e and t stand for
 pub record Magnitude (e t r : ℕ) : Type 0 where
   pub small : r ≤ 0x7f80_0000
-  pub bits : (s : Bool) → Ieee.toBits binary32 (Ieee.round binary32 s (sig e t) (2 ^ 1074)) ≡ cond s (2 ^ 31) 0 + r
-
--- what an f32's fields stand for, in units of 2 ^ -149
-abbrev pub sig32 : ℕ → ℕ → ℕ
-sig32 zero t = t
-sig32 (suc x) t = (2 ^ 23 + t) * 2 ^ x
+  pub bits : (s : Bool) → Ieee.toBits binary32 (Ieee.round binary32 s (significand binary64 e t) (2 ^ 1074)) ≡ cond s (2 ^ 31) 0 + r
 
 -- n is m * 4 ^ k, and m has 47 or 48 digits
 pub record ScaledTo (n m k : ℕ) : Type 0 where

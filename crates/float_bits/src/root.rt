@@ -1,8 +1,9 @@
 // The f32 square root.
 ghost use mathlib.Core.Path.{_≡_};
 ghost use Prim.Native.Nat.{ℕ, _+_, _*_, _/_, _%_, _<_, _≤_, _^_};
+ghost use lib.Ieee.{binary32};
 ghost use Rattle.float_bits.specs.Root.{sqrtOf};
-ghost use Rattle.float_bits.specs.Steps.{ScaledTo, RootBits, sig32};
+ghost use Rattle.float_bits.specs.Steps.{ScaledTo, RootBits, significand};
 
 // The largest whole number whose square is at most m.
 fn isqrt(m: u64) -> u64
@@ -49,7 +50,7 @@ fn scale(q: u64, h: u64) -> Scaled
 fn radicand(b: u64) -> Scaled
     requires { ⌜ 0 < b ⌝ }
     requires { ⌜ b < 0x7f80_0000 ⌝ }
-    ensures { λ r. ⌜ ScaledTo (sig32 (b / 2 ^ 23) (b % 2 ^ 23) * 2 ^ 149) (r .m) (r .k) ⌝ }
+    ensures { λ r. ⌜ ScaledTo (significand binary32 (b / 2 ^ 23) (b % 2 ^ 23) * 2 ^ 149) (r .m) (r .k) ⌝ }
 {
     let e = b / 0x80_0000;
     let t = b % 0x80_0000;
@@ -63,7 +64,7 @@ fn radicand(b: u64) -> Scaled
 fn root_bits(b: u64) -> u64
     requires { ⌜ 0 < b ⌝ }
     requires { ⌜ b < 0x7f80_0000 ⌝ }
-    ensures { λ r. ⌜ RootBits (sig32 (b / 2 ^ 23) (b % 2 ^ 23) * 2 ^ 149) r ⌝ }
+    ensures { λ r. ⌜ RootBits (significand binary32 (b / 2 ^ 23) (b % 2 ^ 23) * 2 ^ 149) r ⌝ }
 {
     let p = radicand(b);
     let m = p.m;

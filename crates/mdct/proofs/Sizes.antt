@@ -3,7 +3,7 @@ use mathlib.Core.Path.{_≡_, refl, ap, _∙_, sym, subst}
 use mathlib.Core.Bool.{Bool, true, false, _||_}
 use Prim.Native.Nat.{ℕ, zero, suc, _+_, _-_, _*_, _/_, _%_, _^_, _≤_, _<_}
 use native.Mathlib.Omega.{arith}
-use native.Mathlib.Nat.{mul-assoc, mul-le-mul, div-eq-of-eq-mul-right}
+use native.Mathlib.Nat.{mul-assoc, mul-comm, mul-le-mul-left, div-eq-of-eq-mul-right}
 use lib.Dec.{T, eqb}
 use lib.Pow.{pow-pos, pow-mono, pow-add}
 use borrow.Author.Tests.{eqb-true}
@@ -43,6 +43,12 @@ module _ (n : ℕ) (z : Size n) where
   pub per : 960 / n ≡ 2 ^ (3 - z .lm)
   per = div-eq-of-eq-mul-right (omega (arith, at-least)) times
 
+  pub even : n % 2 ≡ 0
+  even = omega (arith, z .is)
+
+  pub eights : 2 * n % 8 ≡ 0
+  eights = omega (arith, z .is)
+
   -- n and the number of parts of the circle to each of its steps go together
   pub whole : n * (960 / n) ≡ 960
   whole = ap (λ k. n * k) per ∙ sym times
@@ -53,5 +59,12 @@ module _ (n : ℕ) (z : Size n) where
   pub per-least : 1 ≤ 960 / n
   per-least = omega (arith, per, pow-pos (3 - z .lm))
 
-pub product-most : (a b c d : ℕ) → a ≤ c → b ≤ d → a * b ≤ c * d
-product-most a b c d g h = mul-le-mul g h
+  -- each place of the circle is within 7,680 parts
+  pub parts-most : (i : ℕ) → i < 4 * n → 960 / n * (2 * i + 1) ≤ 7680
+  parts-most i h =
+      let m : 2 * i + 1 ≤ 8 * n = omega arith in
+      omega (arith, mul-le-mul-left (960 / n) m, mul-comm (960 / n) (8 * n), mul-assoc 8 n (960 / n), whole)
+
+-- from one multiple of 8 below another to the next
+pub next-eight : (t m : ℕ) → t % 8 ≡ 0 → m % 8 ≡ 0 → t < m → t + 8 ≤ m
+next-eight t m e f h = let q : t / 8 < m / 8 = omega arith in omega arith

@@ -29,9 +29,17 @@ angle n t k = (2 * t + 1 + n) * (2 * k + 1) * (960 / n) % 7680
 unfoldable pub imdctTerm : ℕ → List Float → ℕ → ℕ → Float
 imdctTerm n xs t k = mul binary64 (getD xs k nan) (cosAt (angle n t k))
 
--- output t: half of the sum in f64, rounded to f32
+-- the sum of output t, in f64
+unfoldable pub imdctSum : ℕ → List Float → ℕ → Float
+imdctSum n xs t = sumTo binary64 (imdctTerm n xs t) (ofBits binary64 0) n
+
+-- half of x, rounded to f32
+unfoldable pub halfOf : Float → Float
+halfOf x = narrow (mul binary64 (ofBits binary64 0x3fe0_0000_0000_0000) x)
+
+-- output t
 unfoldable pub imdctAt : ℕ → List Float → ℕ → Float
-imdctAt n xs t = narrow (mul binary64 (ofBits binary64 0x3fe0_0000_0000_0000) (sumTo binary64 (imdctTerm n xs t) (ofBits binary64 0) n))
+imdctAt n xs t = halfOf (imdctSum n xs t)
 
 unfoldable pub imdct : ℕ → List Float → List Float
 imdct n xs = tab (imdctAt n xs) (2 * n)

@@ -4,10 +4,14 @@ use float_bits::formats::f32_to_f64;
 use float_bits::formats::f64_to_f32;
 ghost use mathlib.Core.Path.{_≡_};
 ghost use mathlib.Core.Bool.{true};
-ghost use Prim.Native.Nat.{_*_, _<_, _≤_};
-ghost use lib.ListN.{length};
+ghost use mathlib.Core.List.{_++_};
+ghost use Prim.Native.Nat.{_+_, _*_, _/_, _%_, _<_, _≤_};
+ghost use lib.ListN.{length, getD, take};
+ghost use lib.Ieee.{nan};
+ghost use Rattle.loops.specs.Front.{front, tab};
 ghost use Rattle.cosine_table.specs.Cosines.{cosines};
-ghost use Rattle.mdct.specs.Imdct.{cosAt, frameSize, imdct, imdctAt, imdctLeaves, imdctTakes};
+ghost use Rattle.mdct.specs.Circle.{IsCircle};
+ghost use Rattle.mdct.specs.Imdct.{cosAt, frameSize, halfOf, imdct, imdctLeaves, imdctSum, imdctTakes};
 
 // The cosine of j parts of a circle of 7,680.
 fn cos_at(c: &[f64; 1921], j: usize) -> f64
@@ -26,31 +30,86 @@ fn cos_at(c: &[f64; 1921], j: usize) -> f64
     }
 }
 
-fn output(c: &[f64; 1921], x: &[f32], t: usize) -> f32
+// The cosines of a circle of 4 n steps, each at half a step more than a whole one.
+fn circle(c: &[f64; 1921], n: usize) -> [f64; 3840]
     requires { ⌜ now c ≡ cosines ⌝ }
-    requires { ⌜ frameSize (length (now x)) ≡ true ⌝ }
-    requires { ⌜ t < 2 * length (now x) ⌝ }
-    ensures { λ r. ⌜ r ≡ imdctAt (length (now (x .entry))) (now (x .entry)) t ⌝ }
+    requires { ⌜ frameSize n ≡ true ⌝ }
+    ensures { λ r. ⌜ IsCircle n r ⌝ }
 {
-    let n = x.len();
     let s = 960 / n;
-    let mut acc = 0.0f64;
-    for k in 0..n {
-        let a = (2 * t + 1 + n) * (2 * k + 1) * s % 7680;
-        acc = acc + f32_to_f64(x[k]) * cos_at(c, a);
+    let m = 4 * n;
+    let mut r = [0.0f64; 3840];
+    for i in 0..m {
+        r[i] = cos_at(c, s * (2 * i + 1));
     }
-    f64_to_f32(0.5 * acc)
+    r
 }
 
-fn outputs(c: &[f64; 1921], x: &[f32], out: &mut [f32])
-    requires { ⌜ now c ≡ cosines ⌝ }
+// i in a circle of w steps.
+fn wrapped(i: usize, w: usize) -> usize
+    requires { ⌜ i < 2 * w ⌝ }
+    ensures { λ r. ⌜ r ≡ i % w ⌝ }
+{
+    if i < w { i } else { i - w }
+}
+
+// Eight places on a circle of w steps, from first on, by steps further each.
+fn along(first: usize, by: usize, w: usize) -> [usize; 8]
+    requires { ⌜ (first < 8000) × (by ≤ 2) × (0 < w) ⌝ }
+    ensures { λ r. ⌜ r ≡ tab (λ j. (first + by * j) % w) 8 ⌝ }
+{
+    let mut r = [0usize; 8];
+    for j in 0..8 {
+        r[j] = (first + by * j) % w;
+    }
+    r
+}
+
+// The sums of eight outputs from t on: eight sums side by side, each in the order of the inputs.
+fn eight(circle: &[f64; 3840], x: &[f32], t: usize) -> [f64; 8]
+    requires { ⌜ IsCircle (length (now x)) (now circle) ⌝ }
+    requires { ⌜ frameSize (length (now x)) ≡ true ⌝ }
+    requires { ⌜ t < 1920 ⌝ }
+    ensures { λ r. ⌜ r ≡ tab (λ j. imdctSum (length (now (x .entry))) (now (x .entry)) (t + j)) 8 ⌝ }
+{
+    let n = x.len();
+    let w = 4 * n;
+    let step = along(2 * t + 1 + n, 2, w);
+    let mut at = along(t + n / 2, 1, w);
+    let mut acc = [0.0f64; 8];
+    for k in 0..n {
+        let v = f32_to_f64(x[k]);
+        for j in 0..8 {
+            let i = at[j];
+            acc[j] = acc[j] + v * circle[i];
+            at[j] = wrapped(i + step[j], w);
+        }
+    }
+    acc
+}
+
+// Halves eight sums, rounded to f32, into out from t on.
+fn halves(sums: &[f64; 8], out: &mut [f32], t: usize)
+    requires { ⌜ t + 8 ≤ length (now out) ⌝ }
+    ensures { λ _. ⌜ now (out .exit) ≡ front (take t (now (out .entry)) ++ tab (λ j. halfOf (getD (now (sums .entry)) j nan)) 8) (now (out .entry)) (t + 8) ⌝ }
+{
+    for j in 0..8 {
+        out[t + j] = f64_to_f32(0.5 * sums[j]);
+    }
+}
+
+fn outputs(circle: &[f64; 3840], x: &[f32], out: &mut [f32])
+    requires { ⌜ IsCircle (length (now x)) (now circle) ⌝ }
     requires { ⌜ frameSize (length (now x)) ≡ true ⌝ }
     requires { ⌜ length (now out) ≡ 2 * length (now x) ⌝ }
     ensures { λ _. ⌜ now (out .exit) ≡ imdct (length (now (x .entry))) (now (x .entry)) ⌝ }
 {
     let m = out.len();
-    for t in 0..m {
-        out[t] = output(c, x, t);
+    let mut t = 0;
+    while t < m {
+        let sums = eight(circle, x, t);
+        halves(&sums, out, t);
+        t += 8;
     }
 }
 
@@ -77,6 +136,7 @@ pub fn imdct_naive_f32(spectrum: &[f32], out: &mut [f32]) -> bool
         return false;
     }
     let c = cosines();
-    outputs(&c, spectrum, out);
+    let cosines = circle(&c, n);
+    outputs(&cosines, spectrum, out);
     true
 }

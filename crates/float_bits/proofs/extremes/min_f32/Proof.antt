@@ -1,36 +1,13 @@
-use lib.Ieee.{lt}
 use Rattle.float_bits.specs.Extremes.{minOf}
-use Rattle.float_bits.proofs.Extreme.{first-nan, second-nan, second-wins, first-stays}
 use Rattle.float_bits.proofs.extremes.min_f32.Statement.{statement}
 use Rattle.float_bits.proofs.extremes.min_f32.Tie as tie
 
+number-of-requires : tie.Need-number-of-requires
+number-of-requires c κs = tt
+
 returns : tie.Need-returns
 unfolding minOf
-returns c =
-    let x = c .before .args .x in
-    let y = c .before .args .y in
-    first-nan (lt y x) x y (c .if1 .taken)
-
-returns-2 : tie.Need-returns-2
-unfolding minOf
-returns-2 c =
-    let x = c .before .before .args .x in
-    let y = c .before .before .args .y in
-    second-nan (lt y x) x y (c .before .if1 .left) (c .if2 .taken)
-
-returns-3 : tie.Need-returns-3
-unfolding minOf
-returns-3 c =
-    let x = c .before .before .before .args .x in
-    let y = c .before .before .before .args .y in
-    second-wins (lt y x) x y (c .before .before .if1 .left) (c .before .if2 .left) (c .if3 .taken)
-
-returns-4 : tie.Need-returns-4
-unfolding minOf
-returns-4 c =
-    let x = c .before .before .before .args .x in
-    let y = c .before .before .before .args .y in
-    first-stays (lt y x) x y (c .before .before .if1 .left) (c .before .if2 .left) (c .if3 .left)
+returns c = c .number-of .ensures
 
 pub min-f32-spec : {M : Type 1} → statement M
-min-f32-spec = tie.close (tie.spec returns returns-2 returns-3 returns-4)
+min-f32-spec = tie.close (tie.spec number-of-requires returns)

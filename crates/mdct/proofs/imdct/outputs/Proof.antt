@@ -1,70 +1,80 @@
 use mathlib.Core.Path.{_≡_, refl, ap, _∙_, sym}
 use mathlib.Core.List.{List, [], _∷_, _++_}
 use mathlib.Core.Logic.{⊎-elim}
-use Prim.Native.Nat.{ℕ, zero, suc, _+_, _≤_, _<_, _-_}
+use Prim.Native.Nat.{ℕ, zero, suc, _+_, _*_, _/_, _%_, _≤_, _<_, _-_}
 use native.Mathlib.Omega.{arith}
 use native.Mathlib.Numerals.{add-one}
 use lib.ListN.{length, getD, set, take, drop, length-set}
 use borrow.Author.Needs.{needs}
 use lib.Ieee.{Float, nan}
-use Rattle.loops.specs.Front.{front, tab, tab-none, tab-more, tab-all}
-use Rattle.mdct.specs.Imdct.{imdctAt, imdct}
+use Rattle.loops.specs.Front.{front, tab, tab-none, tab-all, getD-tab}
+use Rattle.mdct.specs.Imdct.{halfOf, imdctSum, imdctAt, imdct}
+use Rattle.mdct.proofs.Sizes.{sized, at-most, eights, next-eight}
+use Rattle.mdct.proofs.Fronts.{rest-all}
 use Rattle.mdct.proofs.imdct.outputs.Statement.{statement}
 use Rattle.mdct.proofs.imdct.outputs.Tie as tie
 use Rattle.mdct.proofs.imdct.outputs.Reads as reads
 use Rattle.mdct.proofs.imdct.outputs.Lts as lts
-use Rattle.mdct.proofs.imdct.output.Reads as output-reads
+use Rattle.mdct.proofs.imdct.eight.Reads as eight-reads
+use Rattle.mdct.proofs.imdct.halves.Reads as halves-reads
 
 abbrev Inv-loop : tie.InvT-loop
-Inv-loop c x out₀ m t₀ out t = (t ≤ m) × (length out ≡ m) × (out ≡ front (tab (imdctAt (length x) x) t) out₀ t)
+Inv-loop circle x out₀ m t₀ out t = (t ≤ m) × (t % 8 ≡ 0) × (length out ≡ m) × (out ≡ front (tab (imdctAt (length x) x) t) out₀ t)
 
 abbrev μ-loop : tie.MeasureT-loop
-μ-loop c x out₀ m t₀ out t = m - t
+μ-loop circle x out₀ m t₀ out t = m - t
 
--- src/imdct.rt:51:5
+-- a turn starts where eight more outputs have room
+room : (c : tie.In-loop Inv-loop μ-loop) → (c .before .loop .t + 8 ≤ 2 * length (c .before .before .before .before .args .x .now)) × (length (c .before .before .before .before .args .x .now) ≤ 960) × (length (c .before .before .before .before .args .out .now) ≡ 2 * length (c .before .before .before .before .args .x .now))
+room c =
+    let z = sized _ (c .before .before .before .before .pre .1 .0) in
+    let m = c .before .before .before .before .pre .1 .1 in
+    (next-eight _ _ (c .before .loop .inv .1) (eights _ z) (omega arith), at-most _ z, m)
+
+-- src/imdct.rt:123:5
 loop-holds : tie.Need-loop-holds Inv-loop μ-loop
-loop-holds c = (search needs, search needs, tab-none _ _)
+loop-holds c = (search needs, search needs, search needs, tab-none _ _)
 
--- src/imdct.rt:52:18
-output-requires : tie.Need-output-requires Inv-loop μ-loop
-output-requires c κs =
-    let a = c .before .before .before .before in
-    (a .pre .0, (a .pre .1 .0, omega (arith, a .pre .1 .1)))
+-- src/imdct.rt:124:20
+eight-requires : tie.Need-eight-requires Inv-loop μ-loop
+eight-requires c κs = let a = c .before .before .before .before in (a .pre .0, (a .pre .1 .0, omega (arith, room c)))
 
--- src/imdct.rt:52:9
-mul-out : tie.Need-mul-out Inv-loop μ-loop
-mul-out c = search needs
+-- src/imdct.rt:125:9
+halves-requires : tie.Need-halves-requires Inv-loop μ-loop
+halves-requires c κs = omega (arith, room (c .before .before .before))
 
--- src/imdct.rt:52:9
-slice-write-out : tie.Need-slice-write-out Inv-loop μ-loop
-slice-write-out c = search needs
-
--- src/imdct.rt:51:9
+-- src/imdct.rt:126:9
 add-t : tie.Need-add-t Inv-loop μ-loop
-add-t c = search needs
+add-t c = omega (arith, room (c .before .before .before .before .before .before))
 
--- src/imdct.rt:51:5
+-- src/imdct.rt:123:5
 loop-less : tie.Need-loop-less Inv-loop μ-loop
 loop-less c = search needs
 
--- src/imdct.rt:51:5
+-- src/imdct.rt:123:5
 loop-again : tie.Need-loop-again Inv-loop μ-loop
+unfolding imdctAt
 loop-again c =
-    let l = c .before .before .loop in
-    (search needs, simp length-set (search needs), tab-more _ nan _ _ _ (l .inv .2) _ (c .output .ensures) (search needs))
+    let l = c .before .before .before .before .before .before .before .loop in (
+      omega (arith, room (c .before .before .before .before .before .before)),
+      search needs,
+      c .before .before .halves .kept .1 .0 ∙ l .inv .2,
+      c .before .before .halves .ensures
+          ∙ rest-all _ _ _ _ _ 8 (l .inv .3) (λ j h. ap halfOf (ap (λ z. getD z j nan) (c .before .before .before .before .before .eight .ensures) ∙ getD-tab _ 8 j nan h)),
+    )
 
--- src/imdct.rt:44:1
+-- src/imdct.rt:115:1
 same-length : tie.Need-same-length Inv-loop μ-loop
 same-length c = search needs
 
--- src/imdct.rt:44:1
+-- src/imdct.rt:115:1
 returns : tie.Need-returns Inv-loop μ-loop
 unfolding imdct
 returns c =
     let l = c .before .loop in
     let a = c .before .before .before .before in
     let m : length (a .args .out .now) ≡ l .t = search needs in
-    tab-all _ nan _ _ _ (l .inv .2) m ∙ ap (tab _) (a .pre .1 .1)
+    tab-all _ nan _ _ _ (l .inv .3) m ∙ ap (tab _) (a .pre .1 .1)
 
 pub outputs-spec : {M : Type 1} → statement M
 outputs-spec =
@@ -73,9 +83,8 @@ outputs-spec =
     Inv-loop
     μ-loop
     loop-holds
-    output-requires
-    mul-out
-    slice-write-out
+    eight-requires
+    halves-requires
     add-t
     loop-less
     loop-again
