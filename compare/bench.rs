@@ -5,15 +5,8 @@ use std::time::Instant;
 
 #[allow(dead_code)]
 extern "C" {
-    fn leaf_celt_autocorr(x: *const f32, n: usize, ac: *mut f32, lags: usize) -> bool;
-    fn leaf_celt_autocorr_windowed(
-        x: *const f32,
-        n: usize,
-        window: *const f32,
-        overlap: usize,
-        ac: *mut f32,
-        lags: usize,
-    ) -> bool;
+    fn leaf_celt_autocorr(x: *const f32, ac: *mut f32);
+    fn leaf_celt_autocorr_windowed(x: *const f32, window: *const f32, ac: *mut f32);
     fn leaf_celt_lpc(lpc: *mut f32, p: usize, ac: *const f32, n: usize) -> bool;
     fn leaf_celt_fir(
         buf: *mut f32,
@@ -23,16 +16,9 @@ extern "C" {
         mem: *const f32,
         reach: usize,
     ) -> bool;
-    fn leaf_celt_iir(
-        buf: *mut f32,
-        n: usize,
-        den: *const f32,
-        order: usize,
-        mem: *const f32,
-        reach: usize,
-    ) -> bool;
+    fn leaf_celt_iir(buf: *mut f32, n: usize, den: *const f32, mem: *const f32) -> bool;
     fn leaf_pitch_downsample(x: *const f32, n: usize, x_lp: *mut f32, half: usize) -> bool;
-    fn leaf_pitch_downsample_stereo(
+    fn leaf_pitch_downsample_pair(
         x: *const f32,
         n: usize,
         y: *const f32,
@@ -40,9 +26,21 @@ extern "C" {
         x_lp: *mut f32,
         half: usize,
     ) -> bool;
-    fn leaf_pitch_search(y: *const f32, n: usize) -> usize;
-    fn leaf_renormalise_vector(x: *mut f32, n: usize) -> bool;
+    fn leaf_pitch_search(y: *const f32) -> usize;
+    fn leaf_renormalise_vector(x: *mut f32, n: usize);
     fn leaf_imdct(spectrum: *const f32, n: usize, out: *mut f32, m: usize) -> bool;
+    fn leaf_decode_lost(
+        w: *mut u32,
+        gain: f32,
+        coarse: *mut f32,
+        background: *const f32,
+        memories: *mut f32,
+        predictor: *mut f32,
+        history: *mut f32,
+        samples: usize,
+        pcm: *mut f32,
+        room: usize,
+    ) -> u32;
 }
 
 /// Least time of a call, in ns; each call works on a fresh copy of the input.
@@ -93,6 +91,59 @@ fn predictor(x: &[f32]) -> Vec<f32> {
     lpc
 }
 
+/// A state's words: a voiced sound, the predictor that fits it, moderate energies.
+#[cfg(leaf_decode_lost)]
+fn state(lm: u32, channels: u32, losses: u32) -> Vec<u32> {
+    let x = sound(4336);
+    let mut s = vec![lm, channels, 0, 21, 1, losses, 1, 173, 200, 0.375f32.to_bits(), 1];
+    s.extend((0..100).map(|i| ((i % 9) as f32 - 3.5).to_bits()));
+    s.extend([0, 0]);
+    for c in 0..2 {
+        s.extend(words(&predictor(&x[2168 * c + 1024..2168 * c + 2048])));
+    }
+    s.extend(words(&x));
+    s
+}
+
+/// One whole loss: ours, the published text timed, the stand-ins' text for the answers.
+#[cfg(leaf_decode_lost)]
+fn loss(rounds: usize, name: &str, lm: u32, channels: u32, losses: u32) {
+    let s = state(lm, channels, losses);
+    let count = (channels as usize) * (120 << lm);
+    let mut best = [f64::INFINITY; 2];
+    let mut ours = vec![0f32; count];
+    for _ in 0..rounds {
+        let mut w = [s[0], s[1], s[2], s[3], s[4], s[5], s[6], s[7], s[8], s[10]];
+        let (mut coarse, background) = (floats(&s[11..61]), floats(&s[61..111]));
+        let (mut memories, mut predictor) = (floats(&s[111..113]), floats(&s[113..161]));
+        let mut history = floats(&s[161..]);
+        let begin = Instant::now();
+        let number = unsafe {
+            leaf_decode_lost(
+                w.as_mut_ptr(),
+                f32::from_bits(s[9]),
+                coarse.as_mut_ptr(),
+                background.as_ptr(),
+                memories.as_mut_ptr(),
+                predictor.as_mut_ptr(),
+                history.as_mut_ptr(),
+                history.len(),
+                ours.as_mut_ptr(),
+                count,
+            )
+        };
+        best[0] = best[0].min(begin.elapsed().as_nanos() as f64);
+        assert_eq!(number, 0);
+        let mut d = published::decoder(&s);
+        let begin = Instant::now();
+        black_box(d.decode_lost().unwrap());
+        best[1] = best[1].min(begin.elapsed().as_nanos() as f64);
+    }
+    let theirs = decoder(&s).decode_lost().unwrap();
+    let name = format!("{name}, lm {lm}, channels {channels}");
+    row(&name, (best[0], ours), (best[1], theirs));
+}
+
 fn main() {
     let rounds: usize = std::env::args().nth(1).and_then(|n| n.parse().ok()).unwrap_or(200);
     let x = sound(4096);
@@ -104,7 +155,7 @@ fn main() {
     row(
         "celt_autocorr, 5 lags",
         least(rounds, &x[..1024], 5, |x, ac| unsafe {
-            leaf_celt_autocorr(x.as_ptr(), x.len(), ac.as_mut_ptr(), ac.len());
+            leaf_celt_autocorr(x.as_ptr(), ac.as_mut_ptr());
         }),
         least(rounds, &x[..1024], 5, |x, ac| plc::celt_autocorr(x, ac, None, 0)),
     );
@@ -112,8 +163,7 @@ fn main() {
     row(
         "celt_autocorr windowed, 25 lags",
         least(rounds, &x[..1024], 25, |x, ac| unsafe {
-            let (w, n) = (window.as_ptr(), window.len());
-            leaf_celt_autocorr_windowed(x.as_ptr(), x.len(), w, n, ac.as_mut_ptr(), ac.len());
+            leaf_celt_autocorr_windowed(x.as_ptr(), window.as_ptr(), ac.as_mut_ptr());
         }),
         least(rounds, &x[..1024], 25, |x, ac| plc::celt_autocorr(x, ac, Some(&window), 120)),
     );
@@ -145,7 +195,7 @@ fn main() {
     row(
         "celt_iir_inplace, order 24, 1,200 samples",
         least(rounds, &x[..1200], 1200, |x, out| unsafe {
-            leaf_celt_iir(x.as_mut_ptr(), x.len(), lpc.as_ptr(), 24, mem.as_ptr(), 24);
+            leaf_celt_iir(x.as_mut_ptr(), x.len(), lpc.as_ptr(), mem.as_ptr());
             out.copy_from_slice(x);
         }),
         least(rounds, &x[..1200], 1200, |x, out| {
@@ -161,12 +211,12 @@ fn main() {
         }),
         least(rounds, &x[..2048], 1024, |x, out| plc::pitch_downsample(&[x], out)),
     );
-    #[cfg(leaf_pitch_downsample_stereo)]
+    #[cfg(leaf_pitch_downsample_pair)]
     row(
         "pitch_downsample, two channels",
         least(rounds, &x, 1024, |x, out| unsafe {
             let (a, b) = x.split_at(2048);
-            leaf_pitch_downsample_stereo(a.as_ptr(), 2048, b.as_ptr(), 2048, out.as_mut_ptr(), out.len());
+            leaf_pitch_downsample_pair(a.as_ptr(), 2048, b.as_ptr(), 2048, out.as_mut_ptr(), out.len());
         }),
         least(rounds, &x, 1024, |x, out| plc::pitch_downsample(&[&x[..2048], &x[2048..]], out)),
     );
@@ -176,7 +226,7 @@ fn main() {
         plc::pitch_downsample(&[&x[..2048]], &mut y);
         row(
             "pitch_search",
-            least(rounds, &y, 1, |y, out| out[0] = unsafe { leaf_pitch_search(y.as_ptr(), y.len()) } as f32),
+            least(rounds, &y, 1, |y, out| out[0] = unsafe { leaf_pitch_search(y.as_ptr()) } as f32),
             least(rounds, &y, 1, |y, out| out[0] = plc::pitch_search(&y[360..], y, 1328, 620) as f32),
         );
     }
@@ -207,5 +257,13 @@ fn main() {
             leaf_imdct(x.as_ptr(), x.len(), out.as_mut_ptr(), out.len());
         });
         row(&format!("cosine sum, N {n}, beside imdct_cached_f32"), ours, (published.0, standin.1));
+    }
+    #[cfg(leaf_decode_lost)]
+    for (name, losses) in [("first pitch loss", 0), ("repeated pitch loss", 2), ("noise loss", 6)] {
+        for lm in [0, 3] {
+            for channels in [1, 2] {
+                loss(rounds, name, lm, channels, losses);
+            }
+        }
     }
 }

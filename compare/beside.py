@@ -52,19 +52,35 @@ def first_unlike(a, b):
             f"{a[at:at+4][::-1].hex().upper()} and {b[at:at+4][::-1].hex().upper()}")
 
 
+def blocks(todo, limit=1 << 25):
+    """Cases in blocks of a limited size, so that any number goes through."""
+    block, size = [], 0
+    for case in todo:
+        block.append(case)
+        size += 4 * max(1 + len(case[2]), c.OPS[case[0]][2])
+        if size > limit:
+            yield block
+            block, size = [], 0
+    yield block
+
+
 def compare_cases(todo, left, right):
     """Cases through two programs; `left` and `right` are commands."""
-    data = b"".join(map(pack, todo))
-    one, other = run(left, data), run(right, data)
-    tally, at = Tally(), 0
-    for n, (op, family, _) in enumerate(todo):
-        end = at + 4 * c.OPS[op][2]
-        a, b = one[at:end], other[at:end]
-        tally.add(f"{op} {family}", a == b and len(a) == end - at,
-                  lambda: f"case {n}, {first_unlike(a, b)}")
-        at = end
-    tally.add("whole answer's length", len(one) == at and len(one) == len(other),
-              lambda: f"{at} bytes owed, {len(one)} and {len(other)} came")
+    tally, done = Tally(), 0
+    for block in blocks(todo):
+        data = b"".join(map(pack, block))
+        one, other = run(left, data), run(right, data)
+        at = 0
+        for n, (op, family, _) in enumerate(block, done):
+            end = at + 4 * c.OPS[op][2]
+            a, b = one[at:end], other[at:end]
+            tally.add(f"{op} {family}", a == b and len(a) == end - at,
+                      lambda: f"case {n}, {first_unlike(a, b)}")
+            at = end
+        if not len(one) == len(other) == at:
+            tally.add("whole answer", False,
+                      lambda: f"{at} bytes owed, {len(one)} and {len(other)} came")
+        done += len(block)
     return tally
 
 
@@ -81,16 +97,20 @@ def split_records(answers):
 
 def compare_records(todo, left, right, tally=None):
     """Records (category, state) through two programs; gives the left's new records too."""
-    data = b"".join(s.tobytes() for _, s in todo)
-    one, other = run(left, data), run(right, data)
-    tally = tally or Tally()
-    ones, others = split_records(one), split_records(other)
-    for n, (category, _) in enumerate(todo):
-        a = ones[n] if n < len(ones) else b""
-        b = others[n] if n < len(others) else b""
-        tally.add(category, a == b and a, lambda: f"record {n}, {first_unlike(a, b)}")
-    tally.add("whole answer's length", len(one) == len(other), lambda: f"{len(one)}, {len(other)}")
-    return tally, [a[-RECORD:] for a in ones]
+    tally, new = tally or Tally(), []
+    for begin in range(0, len(todo), 1000):
+        block = todo[begin : begin + 1000]
+        data = b"".join(s.tobytes() for _, s in block)
+        one, other = run(left, data), run(right, data)
+        ones, others = split_records(one), split_records(other)
+        for n, (category, _) in enumerate(block):
+            a = ones[n] if n < len(ones) else b""
+            b = others[n] if n < len(others) else b""
+            tally.add(category, a == b and a, lambda: f"record {begin + n}, {first_unlike(a, b)}")
+        if len(one) != len(other):
+            tally.add("whole answer", False, lambda: f"{len(one)} and {len(other)} bytes")
+        new += [a[-RECORD:] for a in ones]
+    return tally, new
 
 
 def program(name, check=True):

@@ -89,8 +89,8 @@ def drop_forward_filter(parts):
     return dict(parts, methods=lost.replace(call.group(), ""))
 
 
-def program(parts):
-    """The whole program's text."""
+def program(parts, own=("around.rs", "standin.rs", "measure.rs", "tool.rs")):
+    """The whole program's text; `own` are this folder's parts of it."""
     transform = re.search(r"if !([a-z_0-9:]+)\(&freq, &mut u\)", parts["methods"])
     if not transform:
         extract.stop("decode_lost: the transform's call not found")
@@ -100,7 +100,7 @@ def program(parts):
         f"    {transform.group(1)}(spectrum, out)\n}}\n")
     filled["tables"] = parts.get("tables") or tables.rust()
     text = "#![allow(unused)]\n"
-    for name in ["around.rs", "standin.rs", "measure.rs", "tool.rs"]:
+    for name in own:
         text += (HERE / name).read_text()
     for old, new in parts.get("edits", []):
         text = extract.replace(text, old, new, 1, "this folder's own text")

@@ -43,12 +43,13 @@ class Cases:
     """`few` is the number of cases of a heavy op and family, `many` of a light one."""
 
     series = {}  # by op: how many cases one turn of its series has
+    halfway = halfway.Halfway()
 
     def __init__(self, seed, few, many, states=None):
         self.seed, self.few, self.many = seed, few, many
         self.states = states or st.States(1)
         self.sounds = self.states.sounds
-        self.halfway = halfway.Halfway()
+        self.last = (None, None)
 
     def program(self, name):
         """All cases of a program as (op, family, words)."""
@@ -63,9 +64,15 @@ class Cases:
     def kept(self, op, k):
         """The k-th case of a further series, one of each family in turn: a hunt goes along it."""
         if op not in self.series:
-            self.series[op] = 1 + max(0, len(list(Cases(0, 1, 0, self.states).op(op))) - 1)
+            self.series[op] = len(self.turn(op, 0))
         turn, at = divmod(k, self.series[op])
-        return list(Cases(f"kept {turn}", 1, 0, self.states).op(op))[at][1]
+        return self.turn(op, turn)[at][1]
+
+    def turn(self, op, turn):
+        if self.last[0] != (op, turn):
+            cases = list(Cases(f"kept {turn}", 1, 0, self.states).op(op))
+            self.last = ((op, turn), cases)
+        return self.last[1]
 
     def op(self, op):
         rng = Random(f"{self.seed} {op}")

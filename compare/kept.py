@@ -17,7 +17,7 @@ STOPS = [
 GUARDS = [(77, 0xBF7F1393), (233, 0xBF5A5603)]
 # Bands and log energies whose gain differs where floor is taken as truncation.
 ENERGIES = [(20, 0xC0720EEB), (0, 0xC0CF9B88), (0, 0xC0CF9F25), (20, 0xC07346D9)]
-CASES = {}
-STATES = []
+CASES = {301: [1302]}
+STATES = [361, 1268, 2030, 5961]
 SUMS = [0xB338A6B0, 0xB4CFBF13]
 TRUNCATED = [0xBD03BAC0, 0xBD4DC400, 0xBD4F9280, 0xBD51B640, 0xBDAE0A80, 0xBDC665C0]

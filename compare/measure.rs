@@ -37,8 +37,8 @@ pub mod measure {
         println!("largest difference of subnormal gains {worst_small:e}");
     }
 
-    /// Three kinds of spectra: noise with gains from faint to loud, every single bin, and pairs of
-    /// like bins, whose sums can cancel.
+    /// Four kinds of spectra: noise with gains from faint to loud, every single bin, pairs of like
+    /// bins, and pairs of unlike sign that cancel at some outputs.
     pub fn transforms() {
         for n in [120, 240, 480, 960] {
             let rounds = 2_000_000 / (n * n) * 20 + 20;
@@ -53,9 +53,17 @@ pub mod measure {
                 let other = (7 * k + 1) % n;
                 (0..n).map(|i| if i == k || i == other { 1.0 } else { 0.0 }).collect()
             };
+            // At every 15th output, the two bins' cosines are the same table entry.
+            let cancel = |k: usize| {
+                let mut out = vec![0f32; n];
+                (out[k], out[k + 4 * n / 15]) = (1.0, -1.0);
+                out
+            };
             widest("noise", n, &noise);
             widest("single bins", n, &(0..n).map(single).collect::<Vec<_>>());
             widest("like pairs", n, &(0..n).map(pair).collect::<Vec<_>>());
+            let last = n - 4 * n / 15;
+            widest("pairs that cancel", n, &(0..last).map(cancel).collect::<Vec<_>>());
         }
     }
 
@@ -118,4 +126,13 @@ pub mod measure {
             )
         }
     }
+}
+
+fn further(what: &str) -> std::io::Result<()> {
+    match what {
+        "exp2" => measure::gains(),
+        "imdct" => measure::transforms(),
+        _ => panic!("one of: cases, records, exp2, imdct"),
+    }
+    Ok(())
 }

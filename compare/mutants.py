@@ -297,7 +297,9 @@ def told_apart(wrong, todo, records, right):
 
 def tool(parts, name):
     """The program with one slip in."""
-    text = build.program(edit(parts, MUTANTS[name]))
+    own = ("around.rs", "standin.rs", "tool.rs")
+    text = build.program(edit(parts, MUTANTS[name]), own)
+    text += "fn further(_: &str) -> std::io::Result<()> {\n    Ok(())\n}\n"
     return build.compile_rust(text, "mutants/" + re.sub(r"\W+", "_", name), level=1)
 
 
@@ -310,8 +312,9 @@ def by_op(seed, scale):
     return todo
 
 
-def report(folder, standin, seed, scale):
-    """Builds every mutant and says which inputs tell it apart."""
+def report(folder, standin, seed, scale, names):
+    """Builds every mutant, or those named, and says which inputs tell it apart."""
+    chosen = list(MUTANTS) if names == "all" else names.split(";")
     todo = by_op(seed, scale)
     maker = states.States(seed)
     records = {name: maker.make(name, 12 * scale) for name in maker.categories()}
@@ -321,7 +324,7 @@ def report(folder, standin, seed, scale):
               for name, group in records.items()}
     parts = build.put_standins(build.pieces(folder))
     caught = whole = 0
-    for name in MUTANTS:
+    for name in chosen:
         found = told_apart(tool(parts, name), todo, records, right)
         in_records = sorted(f[8:] for f in found if f.startswith("records "))
         in_cases = sorted({f.split()[0] for f in found if not f.startswith("records ")})
@@ -329,4 +332,4 @@ def report(folder, standin, seed, scale):
         whole += bool(in_records)
         print(f"{'caught' if found else 'MISSED'}: {name}; records: {', '.join(in_records) or 'none'};"
               f" ops: {' '.join(in_cases) or 'none'}", flush=True)
-    print(f"{caught} of {len(MUTANTS)} wrong builds told apart, {whole} by whole records")
+    print(f"{caught} of {len(chosen)} wrong builds told apart, {whole} by whole records")

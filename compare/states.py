@@ -69,11 +69,12 @@ class States:
         return out
 
     def floors(self):
-        """Noise losses with one energy at which floor and truncation part."""
+        """Noise losses of one band alone, its energy one at which floor and truncation part."""
         out = []
         for k, (band, word) in enumerate(kept.ENERGIES):
             s = self.base(Random(f"floor {k}"), "silence")
             s[LM], s[START], s[END], s[DOWNSAMPLE], s[LOSSES] = k % 4, 0, 21, 1, 5
+            s[BACKGROUND:DEEMPH] = w.float_words([-200] * 50)
             s[BACKGROUND + band] = word
             out.append(s)
         return out

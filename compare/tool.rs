@@ -1,5 +1,5 @@
 // Answers the case protocol (PROTOCOL.md): `cases` and `records`, from standard input to standard
-// output; `exp2` and `imdct` measure the stand-ins against the published functions.
+// output.
 
 use ref_decode::CeltRefDecoder;
 use std::io::{Read, Write};
@@ -261,7 +261,7 @@ fn refusal(s: &[u32], history: usize) -> u32 {
     }
 }
 
-fn decoder(s: &[u32]) -> CeltRefDecoder {
+pub fn decoder(s: &[u32]) -> CeltRefDecoder {
     let mut d = CeltRefDecoder::silent(s[0], s[1] as usize);
     d.start = s[2] as usize;
     d.end = s[3] as usize;
@@ -411,25 +411,17 @@ fn to_bytes(words: &[u32]) -> Vec<u8> {
 }
 
 fn main() -> std::io::Result<()> {
-    let stdin = std::io::stdin().lock();
-    let stdout = std::io::BufWriter::new(std::io::stdout().lock());
+    let mut stdin = std::io::stdin().lock();
+    let mut stdout = std::io::BufWriter::new(std::io::stdout().lock());
     match std::env::args().nth(1).as_deref() {
         Some("cases") => {
-            let (mut stdin, mut stdout) = (stdin, stdout);
             let mut bytes = Vec::new();
             stdin.read_to_end(&mut bytes)?;
             stdout.write_all(&to_bytes(&cases(&to_words(&bytes))))?;
             stdout.flush()
         }
         Some("records") => records(std::io::BufReader::new(stdin), stdout),
-        Some("exp2") => {
-            measure::gains();
-            Ok(())
-        }
-        Some("imdct") => {
-            measure::transforms();
-            Ok(())
-        }
-        _ => panic!("one of: cases, records, exp2, imdct"),
+        Some(other) => further(other),
+        None => panic!("cases or records"),
     }
 }
