@@ -4,8 +4,8 @@ use mathlib.Core.List.{List, _++_, map}
 use mathlib.Core.Bool.{Bool, true, false, cond, not, _&&_}
 use Prim.Native.Nat.{ℕ, zero, suc, _+_, _*_, _-_, _/_, _≤_, _<_}
 use native.Mathlib.Omega.{arith}
-use lib.ListN.{length, getD, take, drop, replicate, length-append, length-replicate, length-map}
-use lib.Seq.{slice, length-slice, length-take-le}
+use lib.ListN.{length, getD, take, drop, replicate, length-append, length-drop, length-replicate, length-map}
+use lib.Seq.{length-take-le}
 use borrow.Author.Tests.{ltb-true}
 use lib.Dec.{eqb, ltb}
 use lib.Ieee.{Float, nan, binary32, ofBits, add, mul}
@@ -28,7 +28,7 @@ times g v = mul binary32 v g
 
 -- band i times its gain
 unfoldable pub gainTurn : ℕ → List Float → List Float → ℕ → List Float
-gainTurn m energies bins i = put (lo m i) (width m i) (map (times (gainOf energies i)) (slice (lo m i) (lo m (i + 1)) bins)) bins
+gainTurn m energies bins i = put (lo m i) (width m i) (map (times (gainOf energies i)) (take (width m i) (drop (lo m i) bins))) bins
 
 -- where the spectrum ends: at the edge of end, or where downsampling ends it, if that is lower
 unfoldable pub bound : ℕ → ℕ → ℕ → ℕ
@@ -50,8 +50,9 @@ pub length-gainTurn : (m : ℕ) (energies bins : List Float) (i : ℕ) → i < 2
 unfolding gainTurn
 length-gainTurn m energies bins i h l =
     let v = band-in m i h in
-    length-put (lo m i) (width m i) (map (times (gainOf energies i)) (slice (lo m i) (lo m (i + 1)) bins)) bins
-    (length-map (slice (lo m i) (lo m (i + 1)) bins) (times (gainOf energies i)) ∙ length-slice (lo m i) (lo m (i + 1)) bins (omega arith)) (omega arith)
+    let part = take (width m i) (drop (lo m i) bins) in
+    length-put (lo m i) (width m i) (map (times (gainOf energies i)) part) bins
+    (length-map part (times (gainOf energies i)) ∙ length-take-le (width m i) (drop (lo m i) bins) (omega (arith, length-drop (lo m i) bins))) (omega arith)
 
 gains-size : (m start : ℕ) (energies bins : List Float) (n : ℕ) → start + n ≤ 21 → m * 100 ≤ length bins
     → length (foldTo (λ (b : List Float) (k : ℕ). gainTurn m energies b (start + k)) bins n) ≡ length bins

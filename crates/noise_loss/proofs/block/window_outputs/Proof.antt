@@ -1,11 +1,15 @@
 use mathlib.Core.Path.{_≡_, refl, ap, _∙_, sym}
 use mathlib.Core.List.{List, [], _∷_, _++_}
 use mathlib.Core.Logic.{⊎-elim}
-use Prim.Native.Nat.{ℕ, zero, suc, _+_, _≤_, _<_, _-_}
+use Prim.Native.Nat.{ℕ, zero, suc, _+_, _≤_, _<_, _-_, _*_, _/_, _%_}
 use native.Mathlib.Omega.{arith}
 use native.Mathlib.Numerals.{add-one}
 use lib.ListN.{length, getD, set, take, drop, length-set}
 use borrow.Author.Needs.{needs}
+use lib.Ieee.{Float, nan, binary32, ofBits, mul}
+use Rattle.loops.specs.Front.{front, tab, tab-none, tab-more, tab-all}
+use Rattle.mdct.specs.Window.{window, lowOverlapWindow}
+use Rattle.noise_loss.specs.Block.{windowed}
 use Rattle.noise_loss.proofs.block.window_outputs.Statement.{statement}
 use Rattle.noise_loss.proofs.block.window_outputs.Tie as tie
 use Rattle.noise_loss.proofs.block.window_outputs.Reads as reads
@@ -14,10 +18,12 @@ use Rattle.mdct.proofs.window.low_overlap_window.Reads as low-overlap-window-re
 use Rattle.mdct.proofs.window.window.Reads as window-reads
 
 abbrev Inv-loop : tie.InvT-loop
-Inv-loop block₀ u n w p size j₀ block j = ?
+Inv-loop block₀ u n w p size j₀ block j =
+    (j ≤ size) × (length block ≡ size) × (length block₀ ≡ size) × (block ≡ front (tab (windowed n u) j) block₀ j)
 
 abbrev μ-loop : tie.MeasureT-loop
-μ-loop block₀ u n w p size j₀ block j = ?
+μ-loop block₀ u n w p size j₀ block j =
+    size - j
 
 -- src/block.rt:18:13
 window-requires : tie.Need-window-requires Inv-loop μ-loop
@@ -33,7 +39,8 @@ add-size c = search needs
 
 -- src/block.rt:21:5
 loop-holds : tie.Need-loop-holds Inv-loop μ-loop
-loop-holds c = search needs
+loop-holds c =
+    (search needs, search needs, search needs, tab-none _ _)
 
 -- src/block.rt:22:28
 add-block : tie.Need-add-block Inv-loop μ-loop
@@ -69,7 +76,18 @@ loop-less c = search needs
 
 -- src/block.rt:21:5
 loop-again : tie.Need-loop-again Inv-loop μ-loop
-loop-again c = search needs
+unfolding windowed
+loop-again c =
+    let h = c .before .before .before .before .loop in
+    let a = c .before .before .before .before .before .before .before .before .args in
+    let two = mul binary32 (ofBits binary32 0x4000_0000) (getD (a .u .now) ((a .n - 120) / 2 + h .j) nan) in
+    let r : mul binary32 two (c .low-overlap-window .result) ≡ windowed (a .n) (a .u .now) (h .j) =
+    ap (mul binary32 two) (c .low-overlap-window .ensures ∙ ap (λ z. lowOverlapWindow z (a .n) (h .j)) (c .before .before .before .before .before .window .ensures)) in (
+      search needs,
+      simp length-set (search needs),
+      search needs,
+      tab-more (windowed (a .n) (a .u .now)) nan (a .block .now) (h .block) (h .j) (h .inv .3) _ r (omega arith),
+    )
 
 -- src/block.rt:14:1
 same-length : tie.Need-same-length Inv-loop μ-loop
@@ -77,7 +95,10 @@ same-length c = search needs
 
 -- src/block.rt:14:1
 returns : tie.Need-returns Inv-loop μ-loop
-returns c = search needs
+returns c =
+    let h = c .before .loop in
+    let a = c .before .before .before .before .before .args in
+    tab-all (windowed (a .n) (a .u .now)) nan (a .block .now) (h .block) (h .j) (h .inv .3) (omega arith) ∙ ap (tab (windowed (a .n) (a .u .now))) (h .inv .2)
 
 pub window-outputs-spec : {M : Type 1} → statement M
 window-outputs-spec =

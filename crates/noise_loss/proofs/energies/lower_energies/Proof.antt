@@ -1,11 +1,16 @@
 use mathlib.Core.Path.{_≡_, refl, ap, _∙_, sym}
 use mathlib.Core.List.{List, [], _∷_, _++_}
 use mathlib.Core.Logic.{⊎-elim}
-use Prim.Native.Nat.{ℕ, zero, suc, _+_, _≤_, _<_, _-_}
+use Prim.Native.Nat.{ℕ, zero, suc, _+_, _≤_, _<_, _-_, _*_, _/_, _%_}
 use native.Mathlib.Omega.{arith}
 use native.Mathlib.Numerals.{add-one}
 use lib.ListN.{length, getD, set, take, drop, length-set}
 use borrow.Author.Needs.{needs}
+use borrow.Author.Tests.{lt-ltb, le-ltb, lt-leb, le-leb, eq-eqb, ne-eqb}
+use lib.Ieee.{nan}
+use Rattle.loops.specs.Front.{front, tab, tab-none}
+use Rattle.noise_loss.specs.Energies.{droppedAt, lowerEnergies}
+use Rattle.noise_loss.proofs.Laws.{lower-more, lower-all}
 use Rattle.noise_loss.proofs.energies.lower_energies.Statement.{statement}
 use Rattle.noise_loss.proofs.energies.lower_energies.Tie as tie
 use Rattle.noise_loss.proofs.energies.lower_energies.Reads as reads
@@ -14,14 +19,18 @@ use Rattle.noise_loss.proofs.energies.decay_of.Reads as decay-of-reads
 use Rattle.noise_loss.proofs.energies.dropped.Reads as dropped-reads
 
 abbrev Inv-loop : tie.InvT-loop
-Inv-loop channels start end count by e₀ i₀ e i = ?
+Inv-loop channels start end count by e₀ i₀ e i =
+    (i ≤ 50) × (length e ≡ 50) × (length e₀ ≡ 50) × (e ≡ front (tab (droppedAt channels start end count e₀) i) e₀ i)
 
 abbrev μ-loop : tie.MeasureT-loop
-μ-loop channels start end count by e₀ i₀ e i = ?
+μ-loop channels start end count by e₀ i₀ e i =
+    50 - i
 
 -- src/energies.rt:39:9
 returns : tie.Need-returns Inv-loop μ-loop
-returns c = search needs
+unfolding lowerEnergies
+returns c =
+    rw (le-leb 5 (c .before .args .count) (c .if1 .taken))
 
 -- src/energies.rt:41:9
 decay-of-requires : tie.Need-decay-of-requires Inv-loop μ-loop
@@ -29,7 +38,8 @@ decay-of-requires c κs = search needs
 
 -- src/energies.rt:43:5
 loop-holds : tie.Need-loop-holds Inv-loop μ-loop
-loop-holds c = search needs
+loop-holds c =
+    (search needs, search needs, search needs, tab-none _ _)
 
 -- src/energies.rt:44:24
 mul-dropped : tie.Need-mul-dropped Inv-loop μ-loop
@@ -61,11 +71,16 @@ loop-less c = search needs
 
 -- src/energies.rt:43:5
 loop-again : tie.Need-loop-again Inv-loop μ-loop
-loop-again c = search needs
+loop-again c =
+    let h = c .before .before .loop in
+    let o = c .before .before .before in
+    (search needs, simp length-set (search needs), search needs, lower-more _ _ _ _ _ _ _ (h .inv .3) _ _ (o .decay-of .ensures) (omega arith) (c .dropped .ensures))
 
 -- src/energies.rt:29:1
 returns-2 : tie.Need-returns-2 Inv-loop μ-loop
-returns-2 c = search needs
+returns-2 c =
+    let h = c .before .loop in
+    lower-all _ _ _ _ _ _ _ (h .inv .3) (omega arith) (omega arith)
 
 pub lower-energies-spec : {M : Type 1} → statement M
 lower-energies-spec =

@@ -1,31 +1,40 @@
 use mathlib.Core.Path.{_≡_, refl, ap, _∙_, sym}
 use mathlib.Core.List.{List, [], _∷_, _++_}
 use mathlib.Core.Logic.{⊎-elim}
-use Prim.Native.Nat.{ℕ, zero, suc, _+_, _≤_, _<_, _-_}
+use Prim.Native.Nat.{ℕ, zero, suc, _+_, _≤_, _<_, _-_, _*_, _/_, _%_}
 use native.Mathlib.Omega.{arith}
 use native.Mathlib.Numerals.{add-one}
 use lib.ListN.{length, getD, set, take, drop, length-set}
 use borrow.Author.Needs.{needs}
+use lib.Ieee.{Float, nan, binary32, add}
+use lib.Seq.{slice}
+use Rattle.loops.specs.Front.{front, tab, tab-none, tab-more}
+use Rattle.noise_loss.proofs.Laws.{sumAt, sum-at, copy-none, copy-more, copy-all}
 use Rattle.noise_loss.proofs.history.lay.Statement.{statement}
 use Rattle.noise_loss.proofs.history.lay.Tie as tie
 use Rattle.noise_loss.proofs.history.lay.Reads as reads
 use Rattle.noise_loss.proofs.history.lay.Lts as lts
 
 abbrev Inv-loop : tie.InvT-loop
-Inv-loop tail₀ block n j₀ tail j = ?
+Inv-loop tail₀ block n j₀ tail j =
+    (j ≤ 120) × (length tail ≡ length tail₀) × (tail ≡ front (tab (sumAt block (drop n tail₀)) j) tail₀ j)
 
 abbrev μ-loop : tie.MeasureT-loop
-μ-loop tail₀ block n j₀ tail j = ?
+μ-loop tail₀ block n j₀ tail j =
+    120 - j
 
 abbrev Inv-loop2 : tie.InvT-loop2
-Inv-loop2 tail₀ block n size j₀ tail j = ?
+Inv-loop2 tail₀ block n size j₀ tail j =
+    (120 ≤ j) × (j ≤ size) × (length tail ≡ length tail₀) × (tail ≡ front (take 120 tail₀ ++ slice 120 j block) tail₀ j)
 
 abbrev μ-loop2 : tie.MeasureT-loop2
-μ-loop2 tail₀ block n size j₀ tail j = ?
+μ-loop2 tail₀ block n size j₀ tail j =
+    size - j
 
 -- src/history.rt:13:5
 loop-holds : tie.Need-loop-holds Inv-loop μ-loop Inv-loop2 μ-loop2
-loop-holds c = search needs
+loop-holds c =
+    (search needs, search needs, tab-none _ _)
 
 -- src/history.rt:14:19
 mul-tail : tie.Need-mul-tail Inv-loop μ-loop Inv-loop2 μ-loop2
@@ -65,11 +74,19 @@ loop-less c = search needs
 
 -- src/history.rt:13:5
 loop-again : tie.Need-loop-again Inv-loop μ-loop Inv-loop2 μ-loop2
-loop-again c = search needs
+loop-again c =
+    let h = c .before .before .before .loop in
+    let a = c .before .before .before .before .args in (
+      search needs,
+      simp length-set (search needs),
+      tab-more (sumAt (a .block .now) (drop (a .n) (a .tail .now))) nan (a .tail .now) (h .tail) (h .j) (h .inv .2) _
+          (sum-at (a .n) (h .j) (a .block .now) (a .tail .now) (h .tail) (h .inv .2)) (omega arith),
+    )
 
 -- src/history.rt:17:5
 loop2-holds : tie.Need-loop2-holds Inv-loop μ-loop Inv-loop2 μ-loop2
-loop2-holds c = search needs
+loop2-holds c =
+    (search needs, search needs, search needs, copy-none (c .before .before .args .block .now) (c .before .loop .tail))
 
 -- src/history.rt:18:19
 mul-tail-4 : tie.Need-mul-tail-4 Inv-loop μ-loop Inv-loop2 μ-loop2
@@ -97,7 +114,11 @@ loop2-less c = search needs
 
 -- src/history.rt:17:5
 loop2-again : tie.Need-loop2-again Inv-loop μ-loop Inv-loop2 μ-loop2
-loop2-again c = search needs
+loop2-again c =
+    let h = c .before .before .loop2 in
+    let t = c .before .before .before .before .loop .tail in
+    let a = c .before .before .before .before .before .args in
+    (search needs, search needs, simp length-set (search needs), copy-more (a .block .now) t (h .tail) (h .j) (h .inv .3) (omega arith) (omega arith) (omega arith))
 
 -- src/history.rt:9:1
 same-length : tie.Need-same-length Inv-loop μ-loop Inv-loop2 μ-loop2
@@ -105,7 +126,13 @@ same-length c = search needs
 
 -- src/history.rt:9:1
 returns : tie.Need-returns Inv-loop μ-loop Inv-loop2 μ-loop2
-returns c = search needs
+returns c =
+    let h = c .before .loop2 in
+    let o = c .before .before .before .loop in
+    let a = c .before .before .before .before .args in
+    let e : o .j ≡ 120 = omega arith in
+    copy-all (a .block .now) (o .tail) (h .tail) (h .j) (h .inv .3) (omega arith) (omega arith) (a .tail .now) (drop (a .n) (a .tail .now))
+    (o .inv .2 ∙ ap (λ z. front (tab (sumAt (a .block .now) (drop (a .n) (a .tail .now))) z) (a .tail .now) z) e) (omega arith)
 
 pub lay-spec : {M : Type 1} → statement M
 lay-spec =

@@ -1,11 +1,13 @@
 use mathlib.Core.Path.{_≡_, refl, ap, _∙_, sym}
 use mathlib.Core.List.{List, [], _∷_, _++_}
 use mathlib.Core.Logic.{⊎-elim}
-use Prim.Native.Nat.{ℕ, zero, suc, _+_, _≤_, _<_, _-_}
+use Prim.Native.Nat.{ℕ, zero, suc, _+_, _≤_, _<_, _-_, _*_, _/_, _%_}
 use native.Mathlib.Omega.{arith}
 use native.Mathlib.Numerals.{add-one}
 use lib.ListN.{length, getD, set, take, drop, length-set}
 use borrow.Author.Needs.{needs}
+use Rattle.noise_loss.specs.Shape.{lo, lo-in}
+use Rattle.noise_loss.proofs.Laws.{bound-part, bound-far, bound-one}
 use Rattle.noise_loss.proofs.spectrum.bound_of.Statement.{statement}
 use Rattle.noise_loss.proofs.spectrum.bound_of.Tie as tie
 use Rattle.noise_loss.proofs.spectrum.bound_of.Reads as reads
@@ -18,7 +20,11 @@ band-edge-requires c κs = search needs
 
 -- src/spectrum.rt:49:16
 mul-edge : tie.Need-mul-edge
-mul-edge c = search needs
+mul-edge c =
+    let a = c .before .args in
+    let e : a .m * c .band-edge .result ≡ lo (a .m) (a .end) = ap (λ z. a .m * z) (c .band-edge .ensures) in
+    let l = lo-in (a .m) (a .end) (omega arith) in
+    search needs
 
 -- src/spectrum.rt:50:16
 mul-part : tie.Need-mul-part
@@ -30,15 +36,24 @@ div-part c = search needs
 
 -- src/spectrum.rt:53:13
 returns : tie.Need-returns
-returns c = search needs
+returns c =
+    let b = c .before .before in
+    let a = b .before .args in
+    bound-part (a .m) (a .end) (a .downsample) _ (ap (λ z. a .m * z) (b .band-edge .ensures)) (omega arith) (c .before .if1 .taken) (c .if2 .taken)
 
 -- src/spectrum.rt:45:1
 returns-2 : tie.Need-returns-2
-returns-2 c = search needs
+returns-2 c =
+    let b = c .before .before in
+    let a = b .before .args in
+    bound-far (a .m) (a .end) (a .downsample) _ (ap (λ z. a .m * z) (b .band-edge .ensures)) (omega arith) (c .before .if1 .taken) (c .if2 .left)
 
 -- src/spectrum.rt:45:1
 returns-3 : tie.Need-returns-3
-returns-3 c = search needs
+returns-3 c =
+    let b = c .before in
+    let a = b .before .args in
+    bound-one (a .m) (a .end) (a .downsample) _ (ap (λ z. a .m * z) (b .band-edge .ensures)) (omega arith) (c .if1 .left)
 
 pub bound-of-spec : {M : Type 1} → statement M
 bound-of-spec =

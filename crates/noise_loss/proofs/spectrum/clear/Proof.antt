@@ -1,25 +1,31 @@
 use mathlib.Core.Path.{_≡_, refl, ap, _∙_, sym}
 use mathlib.Core.List.{List, [], _∷_, _++_}
 use mathlib.Core.Logic.{⊎-elim}
-use Prim.Native.Nat.{ℕ, zero, suc, _+_, _≤_, _<_, _-_}
+use Prim.Native.Nat.{ℕ, zero, suc, _+_, _≤_, _<_, _-_, _*_, _/_, _%_}
 use native.Mathlib.Omega.{arith}
 use native.Mathlib.Numerals.{add-one}
 use lib.ListN.{length, getD, set, take, drop, length-set}
 use borrow.Author.Needs.{needs}
+use lib.ListN.{replicate}
+use Rattle.loops.specs.Front.{front, fill-none, fill-more, fill-all}
+use Rattle.noise_loss.specs.Spectrum.{zero32}
 use Rattle.noise_loss.proofs.spectrum.clear.Statement.{statement}
 use Rattle.noise_loss.proofs.spectrum.clear.Tie as tie
 use Rattle.noise_loss.proofs.spectrum.clear.Reads as reads
 use Rattle.noise_loss.proofs.spectrum.clear.Lts as lts
 
 abbrev Inv-loop : tie.InvT-loop
-Inv-loop part₀ n i₀ part i = ?
+Inv-loop part₀ n i₀ part i =
+    (i ≤ n) × (length part ≡ n) × (part ≡ front (replicate i zero32) part₀ i)
 
 abbrev μ-loop : tie.MeasureT-loop
-μ-loop part₀ n i₀ part i = ?
+μ-loop part₀ n i₀ part i =
+    n - i
 
 -- src/spectrum.rt:26:5
 loop-holds : tie.Need-loop-holds Inv-loop μ-loop
-loop-holds c = search needs
+loop-holds c =
+    (search needs, search needs, fill-none zero32 (c .args .part .now))
 
 -- src/spectrum.rt:27:9
 mul-part : tie.Need-mul-part Inv-loop μ-loop
@@ -39,7 +45,10 @@ loop-less c = search needs
 
 -- src/spectrum.rt:26:5
 loop-again : tie.Need-loop-again Inv-loop μ-loop
-loop-again c = search needs
+loop-again c =
+    let h = c .before .loop in
+    let a = c .before .before .args in
+    (search needs, simp length-set (search needs), fill-more zero32 (a .part .now) (h .part) (h .i) (h .inv .2) (omega arith))
 
 -- src/spectrum.rt:22:1
 same-length : tie.Need-same-length Inv-loop μ-loop
@@ -47,7 +56,10 @@ same-length c = search needs
 
 -- src/spectrum.rt:22:1
 returns : tie.Need-returns Inv-loop μ-loop
-returns c = search needs
+returns c =
+    let h = c .before .loop in
+    let a = c .before .before .args in
+    fill-all zero32 (a .part .now) (h .part) (h .i) (h .inv .2) (omega arith)
 
 pub clear-spec : {M : Type 1} → statement M
 clear-spec =

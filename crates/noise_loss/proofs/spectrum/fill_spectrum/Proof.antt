@@ -1,0 +1,104 @@
+use mathlib.Core.Path.{_≡_, refl, ap, ap₂, _∙_, sym}
+use mathlib.Core.List.{List, [], _∷_, _++_}
+use Prim.Native.Nat.{ℕ, zero, suc, _+_, _≤_, _<_, _-_, _*_, _/_, _%_, _^_}
+use native.Mathlib.Omega.{arith}
+use lib.ListN.{length, getD, set, take, drop, length-set}
+use borrow.Author.Needs.{needs}
+use lib.ListN.{length-replicate}
+use Rattle.noise_loss.specs.Shape.{noiseShape}
+use Rattle.noise_loss.specs.Spectrum.{zero32}
+use Rattle.noise_loss.proofs.Calls.{spectrum-is}
+use Rattle.noise_loss.proofs.spectrum.fill_spectrum.Statement.{statement}
+use Rattle.noise_loss.proofs.spectrum.fill_spectrum.Tie as tie
+use Rattle.noise_loss.proofs.spectrum.fill_spectrum.Reads as reads
+use Rattle.noise_loss.proofs.spectrum.fill_spectrum.Lts as lts
+use Rattle.noise_loss.proofs.shape.noise_shape.Reads as noise-shape-reads
+use Rattle.noise_loss.proofs.spectrum.apply_gains.Reads as apply-gains-reads
+use Rattle.noise_loss.proofs.spectrum.bound_of.Reads as bound-of-reads
+use Rattle.noise_loss.proofs.spectrum.clear.Reads as clear-reads
+
+whole : (c : tie.Start) → length (c .args .bins .now) ≡ 120 * c .args .m
+whole c = ap length (c .pre .4) ∙ length-replicate (120 * c .args .m) zero32
+
+-- the bound lies within the bins
+inside : (c : tie.After-bound-of) → c .bound-of .result ≤ length (c .before .before .before .apply-gains .last .0)
+inside c =
+    let o = c .before .before .before .before .before .before .before .before .before .before .before in
+    let l = whole o in
+    let k : length (c .before .before .before .before .before .before .before .noise-shape .last .0) ≡ length (o .args .bins .now) = c .before .before .before .before .before .before .before .noise-shape .kept .0 in
+    let j : length (c .before .before .before .apply-gains .last .0) ≡ length (c .before .before .before .before .before .before .before .noise-shape .last .0) = c .before .before .before .apply-gains .kept .0 in
+    let r : c .bound-of .result ≤ o .args .m * 100 = c .bound-of .ensures .1 in
+    omega arith
+
+-- src/spectrum.rt:72:9
+noise-shape-requires : tie.Need-noise-shape-requires
+noise-shape-requires c κs =
+    let o = c .before .before .before in
+    let l = whole o in
+    (o .pre .0, omega arith, omega arith)
+
+-- src/spectrum.rt:73:5
+apply-gains-requires : tie.Need-apply-gains-requires
+apply-gains-requires c κs =
+    let o = c .before .before .before .before .before .before .before in
+    let l = whole o in
+    let k : length (c .before .before .before .noise-shape .last .0) ≡ length (o .args .bins .now) = c .before .before .before .noise-shape .kept .0 in
+    (o .pre .0, o .pre .1, o .pre .2, omega arith, o .pre .5)
+
+-- src/spectrum.rt:74:9
+bound-of-requires : tie.Need-bound-of-requires
+bound-of-requires c κs = search needs
+
+-- src/spectrum.rt:75:11
+mul-clear : tie.Need-mul-clear
+mul-clear c = search needs
+
+-- src/spectrum.rt:75:11
+sub-clear : tie.Need-sub-clear
+sub-clear c =
+    inside c
+
+-- src/spectrum.rt:75:11
+part-clear-start : tie.Need-part-clear-start
+part-clear-start c =
+    let e = inside c in search needs
+
+-- src/spectrum.rt:75:11
+part-clear-end : tie.Need-part-clear-end
+part-clear-end c = search needs
+
+-- src/spectrum.rt:75:5
+clear-requires : tie.Need-clear-requires
+clear-requires c κs = search needs
+
+-- src/spectrum.rt:60:1
+same-length : tie.Need-same-length
+same-length c = search needs
+
+-- src/spectrum.rt:60:1
+returns : tie.Need-returns
+returns c =
+    let o = c .before .before .before .before .before .before .before .before .before .before .before .before .before .before .before in
+    let a = o .args in
+    let n = c .before .before .before .before .before .before .before .before .before .before .before .noise-shape in
+    let g = c .before .before .before .before .before .before .before .apply-gains in
+    let u = c .before .before .before .before in (
+      n .ensures .0 ∙ ap (λ z. noiseShape (a .m) (a .start) (a .seed) z .seed) (o .pre .4),
+      spectrum-is (a .m) (a .start) (a .end) (a .downsample) (a .seed) (u .bound-of .result) (a .energies .now) (a .bins .now) (n .last .0) (g .last .0)
+          (c .before .before .clear .last .0) (o .pre .4) (n .ensures .1) (g .ensures) (u .bound-of .ensures .0) (inside u) (c .before .before .clear .ensures),
+    )
+
+pub fill-spectrum-spec : {M : Type 1} → statement M
+fill-spectrum-spec =
+    tie.close
+    (tie.spec
+    noise-shape-requires
+    apply-gains-requires
+    bound-of-requires
+    mul-clear
+    sub-clear
+    part-clear-start
+    part-clear-end
+    clear-requires
+    same-length
+    returns)
