@@ -11,42 +11,59 @@ use Rattle.pitch_loss.proofs.channel.pitch_loss_channel.Tie as tie
 use Rattle.pitch_loss.proofs.channel.pitch_loss_channel.Reads as reads
 use Rattle.pitch_loss.proofs.channel.pitch_loss_channel.Lts as lts
 use Rattle.pitch_loss.proofs.channel.accepted.Reads as accepted-reads
+use Rattle.pitch_loss.proofs.channel.coefficients.Reads as coefficients-reads
 use Rattle.pitch_loss.proofs.channel.conceal.Reads as conceal-reads
 use Rattle.pitch_loss.proofs.channel.frame_size.Reads as frame-size-reads
 
--- src/channel.rt:86:8
+-- src/channel.rt:84:8
 accepted-requires : tie.Need-accepted-requires
 accepted-requires c κs = search needs
 
--- src/channel.rt:87:13
+-- src/channel.rt:85:17
+coefficients-requires : tie.Need-coefficients-requires
+coefficients-requires c κs = search needs
+
+-- src/channel.rt:86:13
 frame-size-requires : tie.Need-frame-size-requires
 frame-size-requires c κs = search needs
 
--- src/channel.rt:88:17
+-- src/channel.rt:87:17
+add-m : tie.Need-add-m
+add-m c = search needs
+
+-- src/channel.rt:89:17
 sub-conceal : tie.Need-sub-conceal
 sub-conceal c = search needs
 
--- src/channel.rt:88:17
+-- src/channel.rt:89:17
 part-conceal-start : tie.Need-part-conceal-start
 part-conceal-start c = search needs
 
--- src/channel.rt:88:17
+-- src/channel.rt:89:17
 part-conceal-end : tie.Need-part-conceal-end
 part-conceal-end c = search needs
 
--- src/channel.rt:88:9
+-- src/channel.rt:89:33
+array-borrow-prefix-e : tie.Need-array-borrow-prefix-e
+array-borrow-prefix-e c = search needs
+
+-- src/channel.rt:89:33
+slice-aggregate-conceal : tie.Need-slice-aggregate-conceal
+slice-aggregate-conceal c = search needs
+
+-- src/channel.rt:89:9
 conceal-requires : tie.Need-conceal-requires
 conceal-requires c κs = search needs
 
--- src/channel.rt:89:9
+-- src/channel.rt:90:9
 same-length : tie.Need-same-length
 same-length c = search needs
 
--- src/channel.rt:89:9
+-- src/channel.rt:90:9
 returns : tie.Need-returns
 returns c = search needs
 
--- src/channel.rt:82:1
+-- src/channel.rt:80:1
 returns-2 : tie.Need-returns-2
 returns-2 c = search needs
 
@@ -55,10 +72,14 @@ pitch-loss-channel-spec =
     tie.close
     (tie.spec
     accepted-requires
+    coefficients-requires
     frame-size-requires
+    add-m
     sub-conceal
     part-conceal-start
     part-conceal-end
+    array-borrow-prefix-e
+    slice-aggregate-conceal
     conceal-requires
     same-length
     returns
