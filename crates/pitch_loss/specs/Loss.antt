@@ -107,9 +107,9 @@ accepts-is size lpc lm lag f e7 =
       lag-high = leb-true lag 720 (and-right (eqb size 2168 && eqb lpc 24 && leb lm 3 && leb 102 lag) _ e4);
       period-low = leb-true 15 (f .period) (and-right (eqb size 2168 && eqb lpc 24 && leb lm 3 && leb 102 lag && leb lag 720) _ e5);
       period-high =
-        leb-true (f .period) 1022
-        (and-right (eqb size 2168 && eqb lpc 24 && leb lm 3 && leb 102 lag && leb lag 720 && leb 15 (f .period)) _ e6);
+          leb-true (f .period) 1022
+          (and-right (eqb size 2168 && eqb lpc 24 && leb lm 3 && leb 102 lag && leb lag 720 && leb 15 (f .period)) _ e6);
       tapset =
-        leb-true (f .tapset) 2
-        (and-right (eqb size 2168 && eqb lpc 24 && leb lm 3 && leb 102 lag && leb lag 720 && leb 15 (f .period) && leb (f .period) 1022) _ e7);
+          leb-true (f .tapset) 2
+          (and-right (eqb size 2168 && eqb lpc 24 && leb lm 3 && leb 102 lag && leb lag 720 && leb 15 (f .period) && leb (f .period) 1022) _ e7);
     }

@@ -66,7 +66,15 @@ fn lay(t: &mut [f32], n: usize, e: &[f32], filter: Filter)
 }
 
 // The same, with e filled by what follows the newest 1,024.
-fn conceal(t: &mut [f32], e: &mut [f32], n: usize, lag: usize, first: bool, lpc: &[f32; 24], filter: Filter)
+fn conceal(
+    t: &mut [f32],
+    e: &mut [f32],
+    n: usize,
+    lag: usize,
+    first: bool,
+    lpc: &[f32; 24],
+    filter: Filter,
+)
     requires { ⌜ (length (now t) ≡ 1144) × (length (now e) ≡ n + 240) × (n ≤ 960) × (102 ≤ lag) × (lag ≤ 720) ⌝ }
     requires { ⌜ (15 ≤ filter .period) × (filter .period ≤ 1022) ⌝ }
     ensures { λ _. ⌜ now (t .exit) ≡ concealedTail n (now (t .entry)) lag first (now (lpc .entry)) filter ⌝ }
@@ -77,7 +85,14 @@ fn conceal(t: &mut [f32], e: &mut [f32], n: usize, lag: usize, first: bool, lpc:
 
 // Conceals a lost frame of 120 x 2^lm samples; `first` says that the loss before it was none. Only samples from 1,024 on change.
 // Refused, with h as lent: h not of 2,168 samples, lpc not of 24, lm above 3, lag outside 102 to 720, period outside 15 to 1,022, tapset above 2.
-pub fn pitch_loss_channel(h: &mut [f32], lm: u32, lag: u32, first: bool, lpc: &[f32], filter: Filter) -> bool
+pub fn pitch_loss_channel(
+    h: &mut [f32],
+    lm: u32,
+    lag: u32,
+    first: bool,
+    lpc: &[f32],
+    filter: Filter,
+) -> bool
     ensures { λ r. ⌜ (r ≡ accepts (length (now (h .entry))) (length (now (lpc .entry))) lm lag filter)
         × (now (h .exit) ≡ cond (accepts (length (now (h .entry))) (length (now (lpc .entry))) lm lag filter) (pitchLoss lm (now (h .entry)) lag first (now (lpc .entry)) filter) (now (h .entry))) ⌝ }
 {
@@ -86,7 +101,15 @@ pub fn pitch_loss_channel(h: &mut [f32], lm: u32, lag: u32, first: bool, lpc: &[
         let n = frame_size(lm);
         let m = n + 240;
         let mut e = [0.0f32; 1200];
-        conceal(&mut h[1024..], &mut e[..m], n, lag as usize, first, &c, filter);
+        conceal(
+            &mut h[1024..],
+            &mut e[..m],
+            n,
+            lag as usize,
+            first,
+            &c,
+            filter,
+        );
         return true;
     }
     false

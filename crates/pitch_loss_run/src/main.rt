@@ -39,7 +39,14 @@ fn read_head() -> Head {
     let gain = words::read_word();
     let period = words::read_word();
     let tapset = words::read_word();
-    head(lm.value, first.value, lag.value, gain.value, period.value, tapset)
+    head(
+        lm.value,
+        first.value,
+        lag.value,
+        gain.value,
+        period.value,
+        tapset,
+    )
 }
 
 // A first loss fits its predictor from the newest 1,024; a later one goes by what it was given.

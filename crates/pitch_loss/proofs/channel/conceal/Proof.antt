@@ -6,6 +6,9 @@ use native.Mathlib.Omega.{arith}
 use native.Mathlib.Numerals.{add-one}
 use lib.ListN.{length, getD, set, take, drop, length-set}
 use borrow.Author.Needs.{needs}
+use lib.Seq.{length-take-le}
+use Rattle.pitch_loss.specs.Extrapolate.{extrapolated}
+use Rattle.pitch_loss.specs.Loss.{laid, concealed-is}
 use Rattle.pitch_loss.proofs.channel.conceal.Statement.{statement}
 use Rattle.pitch_loss.proofs.channel.conceal.Tie as tie
 use Rattle.pitch_loss.proofs.channel.conceal.Reads as reads
@@ -19,11 +22,11 @@ slice-reshare-prefix-extrapolate c = search needs
 
 -- src/channel.rt:74:40
 slice-aggregate-extrapolate : tie.Need-slice-aggregate-extrapolate
-slice-aggregate-extrapolate c = search needs
+slice-aggregate-extrapolate c = sym (length-take-le 1024 (c .before .before .before .before .args .t .now) (search needs))
 
 -- src/channel.rt:74:5
 extrapolate-requires : tie.Need-extrapolate-requires
-extrapolate-requires c κs = search needs
+extrapolate-requires c κs = (length-take-le 1024 (c .before .before .before .before .args .t .now) (search needs), search needs, search needs, search needs)
 
 -- src/channel.rt:75:5
 lay-requires : tie.Need-lay-requires
@@ -39,7 +42,13 @@ same-length-2 c = search needs
 
 -- src/channel.rt:69:1
 returns : tie.Need-returns
-returns c = search needs
+returns c =
+    let a = c .before .before .before .before .before .before .before .before .before .before .before .before .args in
+    let l : length (a .e .now) ≡ a .n + 240 = search needs in
+    c .before .before .lay .ensures
+    ∙ ap (λ z. laid (a .n) (a .t .now) z (a .filter))
+    (c .before .before .before .before .before .before .before .extrapolate .ensures ∙ ap (λ z. extrapolated z (take 1024 (a .t .now)) (a .lag) (a .first) (a .lpc .now)) l)
+    ∙ concealed-is (a .n) (a .t .now) (a .lag) (a .first) (a .lpc .now) (a .filter)
 
 pub conceal-spec : {M : Type 1} → statement M
 conceal-spec =

@@ -71,8 +71,8 @@ returns-2 c =
     let p : ℕ = a .f .period in
     let y : c .before .before .copy-in .last .0 ≡ combFilterTo x p (tapGain (a .f) 0) (tapGain (a .f) 1) (tapGain (a .f) 2) =
     c .before .before .copy-in .ensures ∙ c .before .before .before .before .before .before .comb-filter-to .ensures ∙ ap (λ z. combFilterTo x p z (g .g1) (g .g2)) (t .0)
-        ∙ ap (λ z. combFilterTo x p (tapGain (a .f) 0) z (g .g2)) (t .1)
-        ∙ ap (combFilterTo x p (tapGain (a .f) 0) (tapGain (a .f) 1)) (t .2) in
+    ∙ ap (λ z. combFilterTo x p (tapGain (a .f) 0) z (g .g2)) (t .1)
+    ∙ ap (combFilterTo x p (tapGain (a .f) 0) (tapGain (a .f) 1)) (t .2) in
     pre-put (a .f) x _ _ (c .before .before .before .before .before .before .before .before .before .before .before .if1 .left) refl y
 
 pub prefilter-spec : {M : Type 1} → statement M
