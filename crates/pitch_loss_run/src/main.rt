@@ -15,7 +15,7 @@ struct Head {
     whole: bool,
 }
 
-fn head(lm: u32, first: u32, lag: u32, gain: u32, period: u32, tapset: words::Word) -> Head {
+fn head_of(lm: u32, first: u32, lag: u32, gain: u32, period: u32, tapset: words::Word) -> Head {
     let g = float_bits::words::f32_from_word(gain);
     let filter = Filter {
         gain: g,
@@ -39,7 +39,7 @@ fn read_head() -> Head {
     let gain = words::read_word();
     let period = words::read_word();
     let tapset = words::read_word();
-    head(
+    head_of(
         lm.value,
         first.value,
         lag.value,
@@ -50,15 +50,14 @@ fn read_head() -> Head {
 }
 
 // A first loss fits its predictor from the newest 1,024; a later one goes by what it was given.
-fn fitted(first: bool, h: &[f32; 2168], lpc: &mut [f32]) -> bool {
+fn fitted(first: bool, h: &[f32], lpc: &mut [f32]) -> bool {
     if !first {
         return true;
     }
-    let mut new = [0.0f32; 1024];
-    for i in 0..1024 {
-        new[i] = h[1024 + i];
+    if h.len() < 2048 {
+        return false;
     }
-    fit::pitch_fit(&new, lpc)
+    fit::pitch_fit(&h[1024..2048], lpc)
 }
 
 fn answer_loss() -> bool {
