@@ -6,7 +6,7 @@ use Prim.Native.Nat.{ℕ, _+_, _-_, _≤_}
 use native.Mathlib.Omega.{arith}
 use lib.Dec.{eqb, leb}
 use lib.ListN.{length, take, drop, length-drop, drop-of-length-le}
-use lib.Seq.{length-take-le, take-at, drop-at}
+use lib.Seq.{length-take-le, take-all, take-at, drop-at}
 use lib.Ieee.{Float}
 use borrow.Author.Tests.{eq-eqb, le-leb}
 use Rattle.loops.specs.Pick.{pick-true}
@@ -24,7 +24,7 @@ use Rattle.pitch_loss.specs.Guard.{scaled, fade, guarded, length-scaled}
 use Rattle.pitch_loss.specs.Extrapolate.{recent, excitation, repeated, extrapolated, length-recent}
 use Rattle.pitch_loss.specs.Overlap.{rolled, folded, length-rolled, length-folded}
 use Rattle.pitch_loss.specs.Prefilter.{preFiltered}
-use Rattle.pitch_loss.specs.Loss.{laid}
+use Rattle.pitch_loss.specs.Loss.{frameSize, laid, concealedTail, pitchLoss}
 
 -- a copy of the samples, filtered in place
 pub whitened-is : (lpc new mem x y : List Float) → length lpc ≡ 24 → length new ≡ 1024 → mem ≡ recent new → x ≡ new
@@ -87,3 +87,18 @@ module _ (n : ℕ) (x e : List Float) (f : Filter) (lx : length x ≡ 1144) (le 
       let u1 : take 1024 u ≡ R = ap (take 1024) u' ∙ take-at R F 1024 new in
       let u2 : drop 1024 u ≡ F = ap (drop 1024) u' ∙ drop-at R F 1024 new in
       p7 ∙ ap (λ z. z ++ preFiltered f z (drop 1024 u)) u1 ∙ ap (λ z. R ++ preFiltered f R z) u2
+
+-- an accepted loss: all but the oldest 1,024 replaced
+pub channel-is : (b : Bool) (lm n k : ℕ) (h y c lpc : List Float) (lag : ℕ) (first : Bool) (f : Filter) → b ≡ true → n ≡ frameSize lm
+    → c ≡ lpc → k ≡ length h - 1024 → y ≡ concealedTail n (take k (drop 1024 h)) lag first c f
+    → (true ≡ b) × (take 1024 h ++ (y ++ drop k (drop 1024 h)) ≡ cond b (pitchLoss lm h lag first lpc f) h)
+unfolding pitchLoss
+channel-is b lm n k h y c lpc lag first f t p q r e =
+    let l : length (drop 1024 h) ≤ k = omega (arith, length-drop 1024 h) in
+    let y' : y ≡ concealedTail (frameSize lm) (drop 1024 h) lag first lpc f =
+    e ∙ ap (λ z. concealedTail n z lag first c f) (take-all k (drop 1024 h) l) ∙ ap (λ z. concealedTail z (drop 1024 h) lag first c f) p
+    ∙ ap (λ z. concealedTail (frameSize lm) (drop 1024 h) lag first z f) q in (
+      sym t,
+      ap (λ z. take 1024 h ++ (y ++ z)) (drop-of-length-le (drop 1024 h) {i = k} l) ∙ ap (λ z. take 1024 h ++ z) (append-nil y ∙ y')
+          ∙ sym (pick-true _ _ _ t),
+    )

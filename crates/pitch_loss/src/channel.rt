@@ -65,16 +65,22 @@ fn lay(t: &mut [f32], n: usize, e: &[f32], filter: Filter)
     crate::prefilter::prefilter(t, filter);
 }
 
-fn conceal(t: &mut [f32], n: usize, lag: usize, first: bool, lpc: &[f32], filter: Filter)
-    requires { ⌜ (length (now t) ≡ 1144) × (length (now lpc) ≡ 24) × (n ≤ 960) × (102 ≤ lag) × (lag ≤ 720) ⌝ }
+// The same, with e filled by what follows the newest 1,024.
+fn conceal(
+    t: &mut [f32],
+    e: &mut [f32],
+    n: usize,
+    lag: usize,
+    first: bool,
+    lpc: &[f32; 24],
+    filter: Filter,
+)
+    requires { ⌜ (length (now t) ≡ 1144) × (length (now e) ≡ n + 240) × (n ≤ 960) × (102 ≤ lag) × (lag ≤ 720) ⌝ }
     requires { ⌜ (15 ≤ filter .period) × (filter .period ≤ 1022) ⌝ }
     ensures { λ _. ⌜ now (t .exit) ≡ concealedTail n (now (t .entry)) lag first (now (lpc .entry)) filter ⌝ }
 {
-    let c = coefficients(lpc);
-    let mut e = [0.0f32; 1200];
-    let m = n + 240;
-    crate::extrapolate::extrapolate(&mut e[..m], &t[..1024], lag, first, &c);
-    lay(t, n, &e[..m], filter);
+    crate::extrapolate::extrapolate(e, &t[..1024], lag, first, lpc);
+    lay(t, n, e, filter);
 }
 
 // Conceals a lost frame of 120 x 2^lm samples; `first` says that the loss before it was none. Only samples from 1,024 on change.
@@ -91,8 +97,19 @@ pub fn pitch_loss_channel(
         × (now (h .exit) ≡ cond (accepts (length (now (h .entry))) (length (now (lpc .entry))) lm lag filter) (pitchLoss lm (now (h .entry)) lag first (now (lpc .entry)) filter) (now (h .entry))) ⌝ }
 {
     if accepted(h.len(), lpc.len(), lm, lag, filter) {
+        let c = coefficients(lpc);
         let n = frame_size(lm);
-        conceal(&mut h[1024..], n, lag as usize, first, lpc, filter);
+        let m = n + 240;
+        let mut e = [0.0f32; 1200];
+        conceal(
+            &mut h[1024..],
+            &mut e[..m],
+            n,
+            lag as usize,
+            first,
+            &c,
+            filter,
+        );
         return true;
     }
     false

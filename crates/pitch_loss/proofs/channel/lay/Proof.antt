@@ -6,6 +6,9 @@ use native.Mathlib.Omega.{arith}
 use native.Mathlib.Numerals.{add-one}
 use lib.ListN.{length, getD, set, take, drop, length-set}
 use borrow.Author.Needs.{needs}
+use lib.Ieee.{Float}
+use lib.Seq.{length-take-le}
+use Rattle.pitch_loss.proofs.Whole.{lay-is}
 use Rattle.pitch_loss.proofs.channel.lay.Statement.{statement}
 use Rattle.pitch_loss.proofs.channel.lay.Tie as tie
 use Rattle.pitch_loss.proofs.channel.lay.Reads as reads
@@ -21,15 +24,19 @@ slice-relend-prefix-roll c = search needs
 
 -- src/channel.rt:62:26
 slice-aggregate-roll : tie.Need-slice-aggregate-roll
-slice-aggregate-roll c = search needs
+slice-aggregate-roll c = sym (length-take-le 1024 (c .before .before .before .args .t .now) (search needs))
 
 -- src/channel.rt:62:42
 slice-aggregate-roll-2 : tie.Need-slice-aggregate-roll-2
-slice-aggregate-roll-2 c = search needs
+slice-aggregate-roll-2 c = sym (length-take-le (c .before .before .before .before .args .n) (c .before .before .before .before .args .e .now) (search needs))
 
 -- src/channel.rt:62:5
 roll-requires : tie.Need-roll-requires
-roll-requires c κs = search needs
+roll-requires c κs =
+    let a = c .before .before .before .before .args in
+    let p : length (take (a .n) (a .e .now)) ≡ a .n = length-take-le (a .n) (a .e .now) (search needs) in
+    let q : length (take 1024 (a .t .now)) ≡ 1024 = length-take-le 1024 (a .t .now) (search needs) in
+    omega arith
 
 -- src/channel.rt:63:13
 window-requires : tie.Need-window-requires
@@ -65,7 +72,20 @@ same-length c = search needs
 
 -- src/channel.rt:57:1
 returns : tie.Need-returns
-returns c = search needs
+returns c =
+    let a = c .before .before .before .before .before .before .before .before .before .before .before .before .before .before .before .before .before .args in
+    let r : List Float = c .before .before .before .before .before .before .before .before .before .before .before .before .roll .last .0 in
+    let t : List Float = r ++ drop 1024 (a .t .now) in
+    let y : List Float = c .before .before .before .before .before .before .fold-tail .last .0 in
+    let u : List Float = take 1024 t ++ (y ++ drop (length t - 1024) (drop 1024 t)) in
+    lay-is (a .n) (a .t .now) (a .e .now) (a .filter) (search needs) (search needs) (search needs) r t (c .before .before .before .before .before .before .before .before .before .window .result) y u _ (length t - 1024)
+    (c .before .before .before .before .before .before .before .before .before .before .before .before .roll .ensures)
+    refl
+    (c .before .before .before .before .before .before .before .before .before .window .ensures)
+    (c .before .before .before .before .before .before .fold-tail .ensures)
+    refl
+    refl
+    (c .before .before .prefilter .ensures)
 
 pub lay-spec : {M : Type 1} → statement M
 lay-spec =

@@ -6,6 +6,7 @@ use native.Mathlib.Omega.{arith}
 use native.Mathlib.Numerals.{add-one}
 use lib.ListN.{length, getD, set, take, drop, length-set}
 use borrow.Author.Needs.{needs}
+use lib.Ieee.{Float}
 use Rattle.pitch_loss.proofs.Whole.{extrapolate-is}
 use Rattle.pitch_loss.proofs.extrapolate.extrapolate.Statement.{statement}
 use Rattle.pitch_loss.proofs.extrapolate.extrapolate.Tie as tie
@@ -66,7 +67,28 @@ same-length c = search needs
 
 -- src/extrapolate.rt:37:1
 returns : tie.Need-returns
-returns c = ?
+returns c =
+    let a = c .before .before .before .before .before .before .before .before .before .before .before .before .before .before .before .before .before .before .before .before .before .before .before .before .before .before .args in
+    extrapolate-is (length (a .e .now)) (a .new .now) (a .lpc .now) (c .before .before .before .before .before .before .before .before .before .before .before .before .before .before .before .before .before .before .before .before .before .before .before .most-recent .result) (c .before .before .before .before .before .before .before .before .before .before .before .before .before .before .before .before .before .before .before .before .before .whitened .result)
+    (c .before .before .before .before .before .before .before .before .before .before .before .before .before .before .before .before .periodic-copy .last .0)
+    (c .before .before .before .before .before .before .before .before .before .before .before .scale .last .0)
+    (c .before .before .before .before .before .before .celt-iir-inplace .last .0)
+    _
+    (a .lag)
+    (a .first)
+    (c .before .before .before .before .before .before .before .before .before .before .before .before .before .before .before .before .before .before .before .pitch-decay .result)
+    (c .before .before .before .before .before .before .before .before .before .before .before .before .before .before .before .before .periodic-copy .result)
+    (c .before .before .before .before .before .before .before .before .before .before .before .before .before .fade-of .result)
+    (search needs)
+    (c .before .before .before .before .before .before .before .before .before .before .before .before .before .before .before .before .before .before .before .before .before .before .before .most-recent .ensures)
+    (c .before .before .before .before .before .before .before .before .before .before .before .before .before .before .before .before .before .before .before .before .before .whitened .ensures)
+    (c .before .before .before .before .before .before .before .before .before .before .before .before .before .before .before .before .before .before .before .pitch-decay .ensures)
+    (c .before .before .before .before .before .before .before .before .before .before .before .before .before .before .before .before .periodic-copy .ensures .0)
+    (c .before .before .before .before .before .before .before .before .before .before .before .before .before .before .before .before .periodic-copy .ensures .1)
+    (c .before .before .before .before .before .before .before .before .before .before .before .before .before .fade-of .ensures)
+    (c .before .before .before .before .before .before .before .before .before .before .before .scale .ensures)
+    (c .before .before .before .before .before .before .celt-iir-inplace .ensures .1)
+    (c .before .before .energy-guard .ensures .1)
 
 pub extrapolate-spec : {M : Type 1} → statement M
 extrapolate-spec =

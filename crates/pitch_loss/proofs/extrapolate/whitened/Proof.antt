@@ -34,7 +34,7 @@ celt-fir-inplace-requires c κs = search needs
 returns : tie.Need-returns
 returns c =
     let a = c .before .before .before .before .before .before .before .before .before .args in
-    whitened-is (a .lpc .now) (a .new .now) (a .mem .now) _ _ (search needs) (search needs) (search needs) ? (c .before .celt-fir-inplace .ensures .1)
+    whitened-is (a .lpc .now) (a .new .now) (a .mem .now) _ _ (search needs) (search needs) (search needs) (c .before .before .before .before .before .before .copy-in .ensures) (c .before .celt-fir-inplace .ensures .1)
 
 pub whitened-spec : {M : Type 1} → statement M
 whitened-spec =

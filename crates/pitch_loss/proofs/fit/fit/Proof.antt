@@ -6,6 +6,9 @@ use native.Mathlib.Omega.{arith}
 use native.Mathlib.Numerals.{add-one}
 use lib.ListN.{length, getD, set, take, drop, length-set}
 use borrow.Author.Needs.{needs}
+use lib.Ieee.{Float}
+use mathlib.Core.Bool.{cond}
+use Rattle.plc_pitch.specs.LagWindow.{lagWindow}
 use Rattle.pitch_loss.proofs.Whole.{fit-is}
 use Rattle.pitch_loss.proofs.fit.fit.Statement.{statement}
 use Rattle.pitch_loss.proofs.fit.fit.Tie as tie
@@ -56,7 +59,16 @@ same-length c = search needs
 -- src/fit.rt:8:1
 returns : tie.Need-returns
 returns c =
-    fit-is _ _ _ _ _ _ _ ? ? ? ? (search needs) (c .before .before .celt-lpc .ensures .1)
+    let a = c .before .before .before .before .before .before .before .before .before .before .before .before .before .before .before .before .before .args in
+    let ac : List Float = c .before .before .before .before .before .before .before .before .celt-autocorr-windowed .result in
+    let l = c .before .before .before .before .before .before .lag-window in
+    fit-is (a .new .now) (c .before .before .before .before .before .before .before .before .before .before .before .before .before .copy-in .last .0) (c .before .before .before .before .before .before .before .before .before .before .before .window .result) ac (l .last .0) (a .lpc .now) _
+    (c .before .before .before .before .before .before .before .before .before .before .before .before .before .copy-in .ensures)
+    (c .before .before .before .before .before .before .before .before .before .before .before .window .ensures)
+    (c .before .before .before .before .before .before .before .before .celt-autocorr-windowed .ensures)
+    (l .ensures .1 ∙ ap (λ z. cond z (lagWindow ac) ac) (l .ensures .0))
+    (search needs)
+    (c .before .before .celt-lpc .ensures .1)
 
 pub fit-spec : {M : Type 1} → statement M
 fit-spec =

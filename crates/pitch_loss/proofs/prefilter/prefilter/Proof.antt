@@ -7,6 +7,7 @@ use native.Mathlib.Numerals.{add-one}
 use lib.ListN.{length, getD, set, take, drop, length-set}
 use borrow.Author.Needs.{needs}
 use Rattle.pitch_loss.specs.Prefilter.{combFilterTo, tapGain}
+use lib.Ieee.{Float}
 use Rattle.pitch_loss.proofs.Laws.{pre-skip, pre-put}
 use Rattle.pitch_loss.proofs.prefilter.prefilter.Statement.{statement}
 use Rattle.pitch_loss.proofs.prefilter.prefilter.Tie as tie
@@ -64,7 +65,15 @@ same-length c = search needs
 returns-2 : tie.Need-returns-2
 returns-2 c =
     let a = c .before .before .before .before .before .before .before .before .before .before .before .before .before .before .args in
-    pre-put (a .f) (a .t .now) _ _ ? refl ?
+    let g = c .before .before .before .before .before .before .before .tap-gains .result in
+    let t = c .before .before .before .before .before .before .before .tap-gains .ensures in
+    let x : List Float = a .t .now in
+    let p : ℕ = a .f .period in
+    let y : c .before .before .copy-in .last .0 ≡ combFilterTo x p (tapGain (a .f) 0) (tapGain (a .f) 1) (tapGain (a .f) 2) =
+    c .before .before .copy-in .ensures ∙ c .before .before .before .before .before .before .comb-filter-to .ensures ∙ ap (λ z. combFilterTo x p z (g .g1) (g .g2)) (t .0)
+    ∙ ap (λ z. combFilterTo x p (tapGain (a .f) 0) z (g .g2)) (t .1)
+    ∙ ap (combFilterTo x p (tapGain (a .f) 0) (tapGain (a .f) 1)) (t .2) in
+    pre-put (a .f) x _ _ (c .before .before .before .before .before .before .before .before .before .before .before .if1 .left) refl y
 
 pub prefilter-spec : {M : Type 1} → statement M
 prefilter-spec =
