@@ -26,7 +26,7 @@ pub record Ok (s : State) (h : List Float) : Type 0 where
   pub filter : checkFilter (s .filter) ≡ 0
   pub history : length h ≡ 4336
 
-or-zero : (a b : ℕ) → orElse a b ≡ 0 → (a ≡ 0) × (b ≡ 0)
+pub or-zero : (a b : ℕ) → orElse a b ≡ 0 → (a ≡ 0) × (b ≡ 0)
 unfolding orElse
 or-zero zero b e = (refl, e)
 or-zero (suc a) b e = omega arith
@@ -63,7 +63,7 @@ ok-gate s h p o =
     rw (o .settings, o .lag, o .filter, history-fits (length h) (o .history)) (none-else (checkCount (s .«loss_count»)) (checkPcm (s .settings) p))
 
 -- the lag check, as a fact and back
-lag-range : (start c lag : ℕ) → checkLag start c lag ≡ 0 → start ≡ 0 → 1 ≤ c → c ≤ 4 → (102 ≤ lag) × (lag ≤ 720)
+pub lag-range : (start c lag : ℕ) → checkLag start c lag ≡ 0 → start ≡ 0 → 1 ≤ c → c ≤ 4 → (102 ≤ lag) × (lag ≤ 720)
 unfolding checkLag
 lag-range start c lag e z l m =
     let p = (passed (eqb start 0 && within 1 4 c && not (within 102 720 lag)) 6 0 e) .0 in

@@ -6,3 +6,5 @@ pub mod Limits
 pub mod Channels
 pub mod Voices
 pub mod Pitches
+pub mod Noises
+pub mod Entry

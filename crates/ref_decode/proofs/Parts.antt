@@ -9,7 +9,7 @@ use lib.ListN.{length, take, drop, length-append, length-take, length-drop}
 use lib.Seq.{slice, length-slice, length-take-le, take-at, drop-at, take-all, drop-drop}
 use lib.Ieee.{Float, add, binary32}
 use lib.Dec.{leb, ltb, eqb, lit<}
-use borrow.Author.Tests.{ltb-false, leb-true, not-false}
+use borrow.Author.Tests.{ltb-false, leb-true, leb-false, not-false}
 use Rattle.ref_decode.specs.State.{factor, frame, stereo}
 use Rattle.ref_decode.specs.Refusal.{checkSettings, checkDownsample, within}
 use Rattle.pitch_loss.specs.Tail.{Tail}
@@ -121,6 +121,10 @@ pub and-true : (a b : Bool) → (a && b) ≡ true → (a ≡ true) × (b ≡ tru
 and-true true b e = (refl, e)
 and-true false b e = (e, (cc))
 
+pub or-false : (a b : Bool) → (a || b) ≡ false → (a ≡ false) × (b ≡ false)
+or-false true b e = (e, (cc))
+or-false false b e = (refl, e)
+
 -- accepted settings: the frame's limits, and the channels
 module _ (k : Settings) (good : checkSettings k ≡ 0) where
   pub lm-small : k .lm ≤ 3
@@ -142,6 +146,18 @@ module _ (k : Settings) (good : checkSettings k ≡ 0) where
   start-small =
       ltb-false 20 (k .start)
       ((passed (ltb 20 (k .start)) 2 _ ((passed (not (within 1 2 (k .channels))) 1 _ ((passed (ltb 3 (k .lm)) 0 _ good) .1)) .1)) .0)
+
+  end-passed : (leb (k .end) (k .start) || ltb 21 (k .end)) ≡ false
+  unfolding checkSettings
+  end-passed =
+      (passed (leb (k .end) (k .start) || ltb 21 (k .end)) 3 _
+      ((passed (ltb 20 (k .start)) 2 _ ((passed (not (within 1 2 (k .channels))) 1 _ ((passed (ltb 3 (k .lm)) 0 _ good) .1)) .1)) .1)) .0
+
+  pub end-above : k .start < k .end
+  end-above = leb-false (k .end) (k .start) ((or-false (leb (k .end) (k .start)) (ltb 21 (k .end)) end-passed) .0)
+
+  pub end-most : k .end ≤ 21
+  end-most = ltb-false 21 (k .end) ((or-false (leb (k .end) (k .start)) (ltb 21 (k .end)) end-passed) .1)
 
   pub downsample-passed : checkDownsample (k .downsample) ≡ 0
   unfolding checkSettings
