@@ -118,6 +118,6 @@ def program(name, check=True):
     if not (ROOT / "crates" / name).is_dir():
         return None
     path = ROOT / "target" / "bin" / name
-    if check:
-        subprocess.run(["rt", "check", name], cwd=ROOT, stdout=subprocess.DEVNULL)
+    if check and subprocess.run(["rt", "check", name], cwd=ROOT, stdout=subprocess.DEVNULL).returncode:
+        raise SystemExit(f"compare: `rt check {name}` failed")
     return path if os.access(path, os.X_OK) else None
