@@ -41,7 +41,7 @@ fine y b = tab (fineAt y (b .at0) (b .at1)) 310
 abbrev pub seven-tenths : Float
 seven-tenths = ofBits binary32 0x3f33_3333
 
--- twice b, less 1 where the correlation after it is the closer, plus 1 where the one before it is
+-- twice p, less 1 where the correlation c after it comes close to its own b, plus 1 where the one before it, a, does
 unfoldable pub interpolated : ℕ → Float → Float → Float → ℕ
 interpolated p a b c =
     cond (lt (mul binary32 seven-tenths (sub binary32 b a)) (sub binary32 c a)) (2 * p - 1)

@@ -116,7 +116,7 @@ fn coarse_best(y: &[f32]) -> Best
     two_best(&xcorr[..155], &y4, 332, 155)
 }
 
-// Twice p, moved by one towards the neighbour with the greater correlation.
+// Twice p, less 1 where the correlation after it comes close to its own, plus 1 where the one before it does.
 fn interpolate(p: usize, a: f32, b: f32, c: f32) -> usize
     requires { ⌜ (0 < p) × (p < 309) ⌝ }
     ensures { λ r. ⌜ r ≡ interpolated p a b c ⌝ }
