@@ -1,2 +1,4 @@
 mod Laws
+mod Pairs
+mod Read
 mod Whole

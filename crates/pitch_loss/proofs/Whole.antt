@@ -13,29 +13,27 @@ use Rattle.loops.specs.Pick.{pick-true}
 use Rattle.mdct.specs.Window.{window}
 use Rattle.plc.specs.Autocorr.{celtAutocorr, windowedEnds, length-celtAutocorr}
 use Rattle.plc.specs.Lpc.{celtLpc}
-use Rattle.plc.specs.Fir.{celtFir, firTakes}
-use Rattle.plc.specs.Iir.{celtIir, iirTakes}
+use Rattle.plc.specs.Fir.{celtFirFrom, firTakes}
+use Rattle.plc.specs.Iir.{celtIir}
 use Rattle.plc_pitch.specs.LagWindow.{lagWindow, length-lagWindow}
 use Rattle.pitch_loss.specs.declared.Filter.{Filter}
 use Rattle.pitch_loss.specs.Fit.{pitchFit}
-use Rattle.pitch_loss.specs.Decay.{pitchDecay}
-use Rattle.pitch_loss.specs.Copy.{periodicCopy, copiedEnergy, length-periodicCopy}
-use Rattle.pitch_loss.specs.Guard.{scaled, fade, guarded, length-scaled}
-use Rattle.pitch_loss.specs.Extrapolate.{recent, excitation, repeated, extrapolated, length-recent}
+use Rattle.pitch_loss.specs.Copy.{copiedEnergy}
+use Rattle.pitch_loss.specs.Guard.{guarded}
+use Rattle.pitch_loss.specs.Extrapolate.{recent, excitation, repeated, extrapolated, length-recent, length-repeated}
 use Rattle.pitch_loss.specs.Overlap.{rolled, folded, length-rolled, length-folded}
 use Rattle.pitch_loss.specs.Prefilter.{preFiltered}
 use Rattle.pitch_loss.specs.Loss.{frameSize, laid, concealedTail, pitchLoss}
 
--- a copy of the samples, filtered in place
-pub whitened-is : (lpc new mem x y : List Float) → length lpc ≡ 24 → length new ≡ 1024 → mem ≡ recent new → x ≡ new
-    → y ≡ cond (firTakes (length lpc) (length mem) (length x)) (celtFir lpc mem x) x → y ≡ excitation lpc new
-unfolding excitation
-whitened-is lpc new mem x y l m p q e =
+-- a copy of the samples, filtered in place from a place on
+pub whitened-is : (from : ℕ) (lpc new mem x y : List Float) → length lpc ≡ 24 → length new ≡ 1024 → mem ≡ recent new → x ≡ new
+    → y ≡ cond (firTakes (length lpc) (length mem) (length x)) (celtFirFrom from lpc mem x) x → y ≡ celtFirFrom from lpc (recent new) new
+whitened-is from lpc new mem x y l m p q e =
     let k : length mem ≡ 24 = ap length p ∙ length-recent new in
     let n : length x ≡ 1024 = ap length q ∙ m in
     let t : firTakes (length lpc) (length mem) (length x) ≡ true =
     simp (eq-eqb (length lpc) (length mem) (l ∙ sym k), le-leb (length lpc) 24 (omega arith), le-leb (length x) 1024 (omega arith)) in
-    e ∙ pick-true _ _ _ t ∙ ap (λ z. celtFir lpc z x) p ∙ ap (celtFir lpc (recent new)) q
+    e ∙ pick-true _ _ _ t ∙ ap (λ z. celtFirFrom from lpc z x) p ∙ ap (celtFirFrom from lpc (recent new)) q
 
 -- correlations of a copy, windowed, and the predictor of them
 pub fit-is : (new x w ac b lpc y : List Float) → x ≡ new → w ≡ window → ac ≡ celtAutocorr (windowedEnds x w) 25
@@ -49,16 +47,16 @@ fit-is new x w ac b lpc y p q r s l e =
     let y' : y ≡ celtLpc b (length lpc) = e ∙ pick-true _ _ _ (eq-eqb (length b) (length lpc + 1) (omega arith)) in
     cc
 
--- the steps of the extrapolation, in order
-pub extrapolate-is : (m : ℕ) (new lpc mem exc e1 e2 e3 e4 : List Float) (lag : ℕ) (first : Bool) (d s1 g : Float) → m ≤ 1200
-    → mem ≡ recent new → exc ≡ excitation lpc new → d ≡ pitchDecay exc lag → e1 ≡ periodicCopy exc lag d m → s1 ≡ copiedEnergy new lag m
-    → g ≡ fade first → e2 ≡ scaled g e1 → e3 ≡ cond (iirTakes (length e2)) (celtIir lpc mem e2) e2 → e4 ≡ guarded s1 e3
+-- the repeated cycle through the all-pole filter and the guard
+pub extrapolate-is : (m : ℕ) (new lpc mem e2 e3 e4 : List Float) (lag : ℕ) (first : Bool) (s1 : Float) → mem ≡ recent new
+    → e2 ≡ repeated m (excitation lpc new) lag first → s1 ≡ copiedEnergy new lag m → e3 ≡ celtIir lpc mem e2 → e4 ≡ guarded s1 e3
     → e4 ≡ extrapolated m new lag first lpc
-unfolding extrapolated repeated
-extrapolate-is m new lpc mem exc e1 e2 e3 e4 lag first d s1 g h p1 p2 p3 p4 p5 p6 p7 p8 p9 =
-    let l : length e2 ≡ m = ap length p7 ∙ length-scaled g e1 ∙ ap length p4 ∙ length-periodicCopy exc lag d m in
-    let y : e3 ≡ celtIir lpc mem e2 = p8 ∙ pick-true _ _ _ (le-leb (length e2) 1200 (omega arith)) in
-    cc
+unfolding extrapolated
+extrapolate-is m new lpc mem e2 e3 e4 lag first s1 p1 p2 p3 p4 p5 = cc
+
+-- the cycle is as long as it was asked for
+pub cycle-length : (m : ℕ) (exc e2 : List Float) (lag : ℕ) (first : Bool) → e2 ≡ repeated m exc lag first → length e2 ≡ m
+cycle-length m exc e2 lag first p = ap length p ∙ length-repeated m exc lag first
 
 -- the newest end rolled, the tail folded into the overlap, and that pre-filtered
 module _ (n : ℕ) (x e : List Float) (f : Filter) (lx : length x ≡ 1144) (le : length e ≡ n + 240) (ln : n ≤ 960) where

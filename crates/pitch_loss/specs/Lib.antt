@@ -8,3 +8,4 @@ pub mod Prefilter
 pub mod Fit
 pub mod Extrapolate
 pub mod Loss
+pub mod Pair

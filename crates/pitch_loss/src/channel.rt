@@ -6,7 +6,7 @@ ghost use lib.ListN.{length};
 ghost use Rattle.pitch_loss.specs.Loss.{frameSize, laid, concealedTail, pitchLoss, accepts};
 use crate::Filter;
 
-fn accepted(size: usize, lpc: usize, lm: u32, lag: u32, f: Filter) -> bool
+pub(crate) fn accepted(size: usize, lpc: usize, lm: u32, lag: u32, f: Filter) -> bool
     ensures { λ r. ⌜ r ≡ accepts size lpc lm lag f ⌝ }
 {
     if size != 2168 {
@@ -36,7 +36,7 @@ fn accepted(size: usize, lpc: usize, lm: u32, lag: u32, f: Filter) -> bool
     true
 }
 
-fn frame_size(lm: u32) -> usize
+pub(crate) fn frame_size(lm: u32) -> usize
     requires { ⌜ lm ≤ 3 ⌝ }
     ensures { λ r. ⌜ (r ≡ frameSize lm) × (120 ≤ r) × (r ≤ 960) ⌝ }
 {
@@ -44,7 +44,7 @@ fn frame_size(lm: u32) -> usize
 }
 
 // The coefficients as an array.
-fn coefficients(lpc: &[f32]) -> [f32; 24]
+pub(crate) fn coefficients(lpc: &[f32]) -> [f32; 24]
     requires { ⌜ length (now lpc) ≡ 24 ⌝ }
     ensures { λ r. ⌜ r ≡ now (lpc .entry) ⌝ }
 {
@@ -54,7 +54,7 @@ fn coefficients(lpc: &[f32]) -> [f32; 24]
 }
 
 // On the newest 1,024 and the overlap: takes in e's first n samples, folds the next 120 into the overlap and pre-filters it.
-fn lay(t: &mut [f32], n: usize, e: &[f32], filter: Filter)
+pub(crate) fn lay(t: &mut [f32], n: usize, e: &[f32], filter: Filter)
     requires { ⌜ (length (now t) ≡ 1144) × (length (now e) ≡ n + 240) × (n ≤ 960) ⌝ }
     requires { ⌜ (15 ≤ filter .period) × (filter .period ≤ 1022) ⌝ }
     ensures { λ _. ⌜ now (t .exit) ≡ laid n (now (t .entry)) (now (e .entry)) filter ⌝ }

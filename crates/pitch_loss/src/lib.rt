@@ -6,6 +6,7 @@ mod extrapolate;
 pub mod fit;
 mod guard;
 mod overlap;
+pub mod pair;
 mod prefilter;
 
 // The post-filter's setting.

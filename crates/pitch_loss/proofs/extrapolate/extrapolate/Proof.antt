@@ -7,87 +7,55 @@ use native.Mathlib.Numerals.{add-one}
 use lib.ListN.{length, getD, set, take, drop, length-set}
 use borrow.Author.Needs.{needs}
 use lib.Ieee.{Float}
-use Rattle.pitch_loss.proofs.Whole.{extrapolate-is}
+use borrow.Author.Tests.{eq-eqb, ne-eqb, le-leb}
+use Rattle.loops.specs.Pick.{pick-true, pick-false}
+use Rattle.plc.specs.Iir.{celtIir}
+use Rattle.pitch_loss.specs.Extrapolate.{excitation}
+use Rattle.pitch_loss.proofs.Whole.{extrapolate-is, cycle-length}
 use Rattle.pitch_loss.proofs.extrapolate.extrapolate.Statement.{statement}
 use Rattle.pitch_loss.proofs.extrapolate.extrapolate.Tie as tie
 use Rattle.pitch_loss.proofs.extrapolate.extrapolate.Reads as reads
 use Rattle.pitch_loss.proofs.extrapolate.extrapolate.Lts as lts
-use Rattle.pitch_loss.proofs.copy.periodic_copy.Reads as periodic-copy-reads
-use Rattle.pitch_loss.proofs.decay.pitch_decay.Reads as pitch-decay-reads
-use Rattle.pitch_loss.proofs.extrapolate.fade_of.Reads as fade-of-reads
 use Rattle.pitch_loss.proofs.extrapolate.most_recent.Reads as most-recent-reads
-use Rattle.pitch_loss.proofs.extrapolate.whitened.Reads as whitened-reads
+use Rattle.pitch_loss.proofs.extrapolate.repeat_cycle.Reads as repeat-cycle-reads
 use Rattle.pitch_loss.proofs.guard.energy_guard.Reads as energy-guard-reads
-use Rattle.pitch_loss.proofs.guard.scale.Reads as scale-reads
 use Rattle.plc.proofs.iir.celt_iir_inplace.Reads as celt-iir-inplace-reads
 
--- src/extrapolate.rt:41:15
+-- src/extrapolate.rt:63:15
 most-recent-requires : tie.Need-most-recent-requires
 most-recent-requires c κs = search needs
 
--- src/extrapolate.rt:42:15
-whitened-requires : tie.Need-whitened-requires
-whitened-requires c κs = search needs
+-- src/extrapolate.rt:64:9
+repeat-cycle-requires : tie.Need-repeat-cycle-requires
+repeat-cycle-requires c κs = search needs
 
--- src/extrapolate.rt:43:43
-slice-aggregate-pitch-decay : tie.Need-slice-aggregate-pitch-decay
-slice-aggregate-pitch-decay c = search needs
-
--- src/extrapolate.rt:43:9
-pitch-decay-requires : tie.Need-pitch-decay-requires
-pitch-decay-requires c κs = search needs
-
--- src/extrapolate.rt:44:44
-slice-aggregate-periodic-copy : tie.Need-slice-aggregate-periodic-copy
-slice-aggregate-periodic-copy c = search needs
-
--- src/extrapolate.rt:44:9
-periodic-copy-requires : tie.Need-periodic-copy-requires
-periodic-copy-requires c κs = search needs
-
--- src/extrapolate.rt:45:9
-fade-of-requires : tie.Need-fade-of-requires
-fade-of-requires c κs = search needs
-
--- src/extrapolate.rt:46:5
-scale-requires : tie.Need-scale-requires
-scale-requires c κs = search needs
-
--- src/extrapolate.rt:47:5
+-- src/extrapolate.rt:65:5
 celt-iir-inplace-requires : tie.Need-celt-iir-inplace-requires
 celt-iir-inplace-requires c κs = search needs
 
--- src/extrapolate.rt:48:5
+-- src/extrapolate.rt:66:5
 energy-guard-requires : tie.Need-energy-guard-requires
 energy-guard-requires c κs = search needs
 
--- src/extrapolate.rt:37:1
+-- src/extrapolate.rt:59:1
 same-length : tie.Need-same-length
 same-length c = search needs
 
--- src/extrapolate.rt:37:1
+-- src/extrapolate.rt:59:1
 returns : tie.Need-returns
 returns c =
-    let a = c .before .before .before .before .before .before .before .before .before .before .before .before .before .before .before .before .before .before .before .before .before .before .before .before .before .before .args in
-    extrapolate-is (length (a .e .now)) (a .new .now) (a .lpc .now) (c .before .before .before .before .before .before .before .before .before .before .before .before .before .before .before .before .before .before .before .before .before .before .before .most-recent .result) (c .before .before .before .before .before .before .before .before .before .before .before .before .before .before .before .before .before .before .before .before .before .whitened .result)
-    (c .before .before .before .before .before .before .before .before .before .before .before .before .before .before .before .before .periodic-copy .last .0)
-    (c .before .before .before .before .before .before .before .before .before .before .before .scale .last .0)
-    (c .before .before .before .before .before .before .celt-iir-inplace .last .0)
-    _
-    (a .lag)
-    (a .first)
-    (c .before .before .before .before .before .before .before .before .before .before .before .before .before .before .before .before .before .before .before .pitch-decay .result)
-    (c .before .before .before .before .before .before .before .before .before .before .before .before .before .before .before .before .periodic-copy .result)
-    (c .before .before .before .before .before .before .before .before .before .before .before .before .before .fade-of .result)
-    (search needs)
-    (c .before .before .before .before .before .before .before .before .before .before .before .before .before .before .before .before .before .before .before .before .before .before .before .most-recent .ensures)
-    (c .before .before .before .before .before .before .before .before .before .before .before .before .before .before .before .before .before .before .before .before .before .whitened .ensures)
-    (c .before .before .before .before .before .before .before .before .before .before .before .before .before .before .before .before .before .before .before .pitch-decay .ensures)
-    (c .before .before .before .before .before .before .before .before .before .before .before .before .before .before .before .before .periodic-copy .ensures .0)
-    (c .before .before .before .before .before .before .before .before .before .before .before .before .before .before .before .before .periodic-copy .ensures .1)
-    (c .before .before .before .before .before .before .before .before .before .before .before .before .before .fade-of .ensures)
-    (c .before .before .before .before .before .before .before .before .before .before .before .scale .ensures)
-    (c .before .before .before .before .before .before .celt-iir-inplace .ensures .1)
+    let a = c .before .before .before .before .before .before .before .before .before .before .before .before .before .before .before .before .before .args in
+    let r = c .before .before .before .before .before .before .before .before .before .before .before .repeat-cycle in
+    let x : List Float = r .last .0 in
+    let mem : List Float = c .before .before .before .before .before .before .before .before .before .before .before .before .before .before .most-recent .result in
+    let l : length x ≡ length (a .e .now) = cycle-length (length (a .e .now)) (excitation (a .lpc .now) (a .new .now)) x (a .lag) (a .first) (r .ensures .0) in
+    let m : length (a .e .now) ≤ 1200 = search needs in
+    let y : c .before .before .before .before .before .before .celt-iir-inplace .last .0 ≡ celtIir (a .lpc .now) mem x =
+    c .before .before .before .before .before .before .celt-iir-inplace .ensures .1 ∙ pick-true _ _ _ (le-leb (length x) 1200 (omega (arith, l, m))) in
+    extrapolate-is (length (a .e .now)) (a .new .now) (a .lpc .now) mem x _ _ (a .lag) (a .first) (r .result) (c .before .before .before .before .before .before .before .before .before .before .before .before .before .before .most-recent .ensures)
+    (r .ensures .0)
+    (r .ensures .1)
+    y
     (c .before .before .energy-guard .ensures .1)
 
 pub extrapolate-spec : {M : Type 1} → statement M
@@ -95,13 +63,7 @@ extrapolate-spec =
     tie.close
     (tie.spec
     most-recent-requires
-    whitened-requires
-    slice-aggregate-pitch-decay
-    pitch-decay-requires
-    slice-aggregate-periodic-copy
-    periodic-copy-requires
-    fade-of-requires
-    scale-requires
+    repeat-cycle-requires
     celt-iir-inplace-requires
     energy-guard-requires
     same-length

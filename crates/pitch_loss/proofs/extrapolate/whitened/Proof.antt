@@ -12,29 +12,29 @@ use Rattle.pitch_loss.proofs.extrapolate.whitened.Tie as tie
 use Rattle.pitch_loss.proofs.extrapolate.whitened.Reads as reads
 use Rattle.pitch_loss.proofs.extrapolate.whitened.Lts as lts
 use Rattle.pitch_loss.proofs.overlap.copy_in.Reads as copy-in-reads
-use Rattle.plc.proofs.fir.celt_fir_inplace.Reads as celt-fir-inplace-reads
+use Rattle.plc.proofs.fir.celt_fir_from.Reads as celt-fir-from-reads
 
--- src/extrapolate.rt:31:29
+-- src/extrapolate.rt:35:29
 slice-aggregate-copy-in : tie.Need-slice-aggregate-copy-in
 slice-aggregate-copy-in c = search needs
 
--- src/extrapolate.rt:31:5
+-- src/extrapolate.rt:35:5
 copy-in-requires : tie.Need-copy-in-requires
 copy-in-requires c κs = search needs
 
--- src/extrapolate.rt:32:32
-slice-aggregate-celt-fir-inplace : tie.Need-slice-aggregate-celt-fir-inplace
-slice-aggregate-celt-fir-inplace c = search needs
+-- src/extrapolate.rt:36:29
+slice-aggregate-celt-fir-from : tie.Need-slice-aggregate-celt-fir-from
+slice-aggregate-celt-fir-from c = search needs
 
--- src/extrapolate.rt:32:5
-celt-fir-inplace-requires : tie.Need-celt-fir-inplace-requires
-celt-fir-inplace-requires c κs = search needs
+-- src/extrapolate.rt:36:5
+celt-fir-from-requires : tie.Need-celt-fir-from-requires
+celt-fir-from-requires c κs = search needs
 
--- src/extrapolate.rt:26:1
+-- src/extrapolate.rt:29:1
 returns : tie.Need-returns
 returns c =
     let a = c .before .before .before .before .before .before .before .before .before .args in
-    whitened-is (a .lpc .now) (a .new .now) (a .mem .now) _ _ (search needs) (search needs) (search needs) (c .before .before .before .before .before .before .copy-in .ensures) (c .before .celt-fir-inplace .ensures .1)
+    whitened-is (a .from) (a .lpc .now) (a .new .now) (a .mem .now) _ _ (search needs) (search needs) (search needs) (c .before .before .before .before .before .before .copy-in .ensures) (c .before .celt-fir-from .ensures .1)
 
 pub whitened-spec : {M : Type 1} → statement M
 whitened-spec =
@@ -42,6 +42,6 @@ whitened-spec =
     (tie.spec
     slice-aggregate-copy-in
     copy-in-requires
-    slice-aggregate-celt-fir-inplace
-    celt-fir-inplace-requires
+    slice-aggregate-celt-fir-from
+    celt-fir-from-requires
     returns)
