@@ -5,7 +5,7 @@ use mathlib.Core.List.{List, [], _∷_, _++_, append-assoc, append-nil}
 use Prim.Native.Nat.{ℕ, _+_, _*_, _-_, _^_, _≤_, _<_}
 use native.Mathlib.Omega.{arith}
 use lib.ListN.{length, take, drop, length-append, length-take, length-drop, drop-of-length-le}
-use lib.Seq.{slice, length-slice, length-take-le, take-at, drop-at, drop-drop}
+use lib.Seq.{slice, length-take-le, take-at, take-all, take-take, drop-drop}
 use lib.Dec.{leb, eqb, lit≤}
 use lib.Ieee.{Float}
 use borrow.Author.Tests.{le-leb, eq-eqb, ne-eqb}
@@ -16,6 +16,7 @@ use Rattle.plc_pitch.specs.Downsample.{pitchDownsample, pitchDownsamplePair}
 use Rattle.pitch_loss.specs.Tail.{Tail}
 use Rattle.pitch_loss.specs.Fit.{pitchFit, length-pitchFit}
 use Rattle.pitch_loss.specs.Loss.{tailAfter, tailNow, tailList, concealedTail, pitchLoss, accepts}
+use Rattle.pitch_loss.specs.Pair.{pitchLossPair, acceptsPair}
 use Rattle.pitch_loss.specs.declared.Filter.{Filter}
 use Rattle.ref_decode.specs.State.{frame, factor, stereo, searches}
 use Rattle.ref_decode.specs.Refusal.{checkSettings, checkFilter}
@@ -24,10 +25,9 @@ use Rattle.ref_decode.specs.Steps.{lagOf, pitch}
 use Rattle.ref_decode.specs.Loss.{lagUsed, predictorUsed, fittedTo, channelTails}
 use Rattle.ref_decode.specs.declared.state.Settings.{Settings}
 use Rattle.ref_decode.specs.declared.state.State.{State}
-use Rattle.ref_decode.proofs.Parts.{TailSized, lm-small, first-sized, second-sized, frame-high}
+use Rattle.ref_decode.proofs.Parts.{lm-small}
 use Rattle.ref_decode.proofs.Table.{period-low, period-high, tapset-high}
-use Rattle.ref_decode.proofs.Laws.{pitch-new, pitch-over}
-use Rattle.ref_decode.proofs.Channels.{slice-take, put-inner, channel, length-channel, channel-tail, with-one, with-two, second-tail}
+use Rattle.ref_decode.proofs.Channels.{slice-take, put-inner, channel, length-channel, channel-tail, with-one}
 
 -- ---- the lag
 
@@ -133,6 +133,9 @@ module _ (k : Settings) (h : List Float) (l : length h ≡ 4336) (p : List Float
 
 -- ---- the channels
 
+joined : (a b c d e f : List Float) → (a ++ (b ++ c)) ++ (d ++ (e ++ f)) ≡ a ++ (b ++ (c ++ (d ++ (e ++ f))))
+joined a b c d e f = append-assoc a (b ++ c) (d ++ (e ++ f)) ∙ ap (λ z. a ++ z) (append-assoc b c (d ++ (e ++ f)))
+
 module _ (k : Settings) (good : checkSettings k ≡ 0) (lag : ℕ) (low : 102 ≤ lag) (high : lag ≤ 720) (f : Filter) (ok : checkFilter f ≡ 0) where
   accepted : (size lpc : ℕ) → size ≡ 2168 → lpc ≡ 24 → accepts size lpc (k .lm) lag f ≡ true
   unfolding accepts
@@ -161,12 +164,6 @@ module _ (k : Settings) (good : checkSettings k ≡ 0) (lag : ℕ) (low : 102 �
       ap₂ (λ m z. put at m z h) e g ∙ put-inner at 1024 1144 _ h (omega arith)
 
   module _ (h : List Float) (l : length h ≡ 4336) (first : Bool) (c : List Float) where
-    sized : (t : Tail) (d : List Float) → TailSized t → TailSized (pitch k t lag first d f)
-    sized t d z = record {
-      new = pitch-new k t lag first d f (omega (arith, frame-high k good, z .new)) ∙ z .new;
-      over = pitch-over k t lag first d f;
-    }
-
     pub pitch-mono : (k .channels ≡ 2 → ⊥) → (y : List Float) → y ≡ put 1024 1144 (tailList (pitch k (tailAt 0 h) lag first (take 24 c) f)) h
         → y ≡ withTails h (channelTails k lag first c f (tails h))
     unfolding channelTails tails stereo
@@ -175,16 +172,23 @@ module _ (k : Settings) (good : checkSettings k ≡ 0) (lag : ℕ) (low : 102 �
         ∙ ap (λ b. withTails h (record { first = pitch k (tailAt 0 h) lag first (take 24 c) f; second = cond b (pitch k (tailAt 2168 h) lag first (drop 24 c) f) (tailAt 2168 h) }))
         (sym (ne-eqb (k .channels) 2 n))
 
-    pub pitch-stereo : k .channels ≡ 2 → (y z d : List Float) → y ≡ put 1024 1144 (tailList (pitch k (tailAt 0 h) lag first (take 24 c) f)) h
-        → z ≡ put 3192 1144 (tailList (pitch k (tailAt 2168 y) lag first d f)) y → d ≡ drop 24 c
-        → z ≡ withTails h (channelTails k lag first c f (tails h))
-    unfolding channelTails tails stereo
-    pitch-stereo w y z d e g q =
+    -- both channels at once
+    pub pitch-pair : k .channels ≡ 2 → length c ≡ 48 → (y : List Float)
+        → y ≡ cond (acceptsPair (length h) (length c) (k .lm) lag f) (pitchLossPair (k .lm) h lag first c f) h
+        → y ≡ withTails h (channelTails k lag first c f (tails h))
+    unfolding pitchLossPair pitchLoss concealedTail tailList acceptsPair withTails channelTails tails stereo frame factor
+    pitch-pair w m y e =
         let one = pitch k (tailAt 0 h) lag first (take 24 c) f in
         let two = pitch k (tailAt 2168 h) lag first (drop 24 c) f in
-        let s1 : TailSized one = sized (tailAt 0 h) (take 24 c) (first-sized h l) in
-        let s2 : TailSized two = sized (tailAt 2168 h) (drop 24 c) (second-sized h l) in
-        g ∙ ap (λ v. put 3192 1144 (tailList (pitch k (tailAt 2168 v) lag first d f)) v) e
-        ∙ ap₂ (λ t v. put 3192 1144 (tailList (pitch k t lag first v f)) (put 1024 1144 (tailList one) h)) (second-tail h l one two s1 s2) q
-        ∙ with-two h l one two s1 s2
+        let taken : acceptsPair (length h) (length c) (k .lm) lag f ≡ true =
+        ap₂ _&&_ (ap₂ _&&_ (eq-eqb (length h) 4336 l) (eq-eqb (length c) 48 m)) (accepted 2168 24 refl refl) in
+        let whole : take 2168 (drop 2168 h) ≡ drop 2168 h = take-all 2168 (drop 2168 h) (omega (arith, length-drop 2168 h)) in
+        let t1 : tailNow (drop 1024 (take 2168 h)) ≡ tailAt 0 h = channel-tail 0 h (omega arith) in
+        let t2 : tailNow (drop 1024 (drop 2168 h)) ≡ tailAt 2168 h =
+        ap (λ z. tailNow (drop 1024 z)) (sym whole) ∙ channel-tail 2168 h (omega arith) in
+        let o1 : take 1024 (take 2168 h) ≡ take 1024 h = take-take 1024 2168 h (lit≤ tt) in
+        let o2 : take 1024 (drop 2168 h) ≡ slice 2168 3192 h = sym (slice-take 2168 1024 h (omega arith)) in
+        e ∙ ap (λ b. cond b (pitchLossPair (k .lm) h lag first c f) h) taken
+        ∙ (λ i. (o1 i ++ tailList (pitch k (t1 i) lag first (take 24 c) f)) ++ (o2 i ++ tailList (pitch k (t2 i) lag first (drop 24 c) f)))
+        ∙ joined (take 1024 h) (one .new) (one .over) (slice 2168 3192 h) (two .new) (two .over)
         ∙ ap (λ b. withTails h (record { first = one; second = cond b two (tailAt 2168 h) })) (sym (eq-eqb (k .channels) 2 w))

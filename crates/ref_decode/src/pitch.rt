@@ -15,6 +15,7 @@ use crate::state::State;
 use pitch_loss::Filter;
 use pitch_loss::channel::pitch_loss_channel;
 use pitch_loss::fit::pitch_fit;
+use pitch_loss::pair::pitch_loss_pair;
 use plc_pitch::downsample::pitch_downsample;
 use plc_pitch::downsample::pitch_downsample_pair;
 use plc_pitch::search::pitch_search;
@@ -90,7 +91,7 @@ fn pitch_channel(
     let taken = pitch_loss_channel(&mut history[at..end], lm, lag, first, lpc, filter);
 }
 
-// Each used channel.
+// Each used channel; two have one loop between them where they can.
 fn pitch_channels(
     history: &mut [f32],
     k: Settings,
@@ -102,10 +103,12 @@ fn pitch_channels(
     requires { ⌜ (checkSettings k ≡ 0) × (length (now history) ≡ 4336) × (102 ≤ lag) × (lag ≤ 720) × (checkFilter filter ≡ 0) ⌝ }
     ensures { λ _. ⌜ now (history .exit) ≡ withTails (now (history .entry)) (channelTails k lag first predictor filter (tails (now (history .entry)))) ⌝ }
 {
-    pitch_channel(history, 0, k, lag, first, &predictor[0..24], filter);
     if k.channels == 2 {
-        pitch_channel(history, 2168, k, lag, first, &predictor[24..48], filter);
+        let lm = k.lm;
+        let taken = pitch_loss_pair(history, lm, lag, first, &predictor, filter);
+        return;
     }
+    pitch_channel(history, 0, k, lag, first, &predictor[0..24], filter);
 }
 
 pub(crate) fn pitch_path(s: State, history: &mut [f32]) -> State
