@@ -53,7 +53,7 @@ unfolding firstBin
 block-draws k seed e l = block-seed (factor k) (k .start) (k .end) (k .downsample) seed e (omega arith)
 
 -- a refusal's number is not 0
-cond-either : {A : Type 0} (P : A → Type 0) (b : Bool) (x y : A) → P x → P y → P (cond b x y)
+pub cond-either : {A : Type 0} (P : A → Type 0) (b : Bool) (x y : A) → P x → P y → P (cond b x y)
 cond-either P true x y p q = p
 cond-either P false x y p q = q
 

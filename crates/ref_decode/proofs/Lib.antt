@@ -8,3 +8,4 @@ pub mod Voices
 pub mod Pitches
 pub mod Noises
 pub mod Entry
+pub mod Samples
