@@ -4,7 +4,7 @@ use mathlib.Core.Bool.{Bool, true, false, cond, _&&_}
 use mathlib.Core.List.{List, [], _∷_, _++_}
 use Prim.Native.Nat.{ℕ, _+_, _*_, _≤_, _<_}
 use native.Mathlib.Omega.{arith}
-use lib.ListN.{length, take, drop, length-append}
+use lib.ListN.{length, getD, take, drop, length-append}
 use lib.Seq.{take-at, length-take-le}
 use lib.Dec.{leb, eqb}
 use lib.Ieee.{Float}
@@ -132,3 +132,27 @@ outcome-from b s h m n e f g k = λ i. loss (e i) ((f ∙ ap (floatsAt b 161) g)
 
 pub samples-most : (b : List ℕ) (v : Verdict) (n : ℕ) → n ≡ samplesOf v → v ≡ outcomeOf b .verdict → n ≤ 1920
 samples-most b v n e f = subst (λ z. z ≤ 1920) (sym (e ∙ ap samplesOf f)) (outcome-samples b .1)
+
+-- an answer's length is at most that of the buffer it needs
+pub answer-most : (b h : List ℕ) → answerLength b h ≤ 7692
+unfolding answerLength
+answer-most b h = go (takes b h)
+  where
+    go : (c : Bool) → cond c (length (headOf (outcomeOf b))) 0 ≤ 7692
+    go true = omega (arith, head-length b, outcome-samples b .1)
+    go false = omega arith
+
+pub tail-most : (n : ℕ) (h : List ℕ) → tailLength n h ≤ 12
+unfolding tailLength tailOf
+tail-most n h = go (leb 12 (length h)) (eqb n 0)
+  where
+    go : (c d : Bool) → cond c (length (cond d [] (wordsBytes (11 ∷ 0 ∷ 0 ∷ [])))) 0 ≤ 12
+    go true true = omega arith
+    go true false = omega (arith, length-bytes (λ (i : ℕ). getD (11 ∷ 0 ∷ 0 ∷ []) i 0) 3)
+    go false d = omega arith
+
+pub answer-le : (r : ℕ) (b h : List ℕ) → r ≡ answerLength b h → r ≤ 7692
+answer-le r b h e = subst (λ z. z ≤ 7692) (sym e) (answer-most b h)
+
+pub tail-le : (r n : ℕ) (h : List ℕ) → r ≡ tailLength n h → r ≤ 12
+tail-le r n h e = subst (λ z. z ≤ 12) (sym e) (tail-most n h)

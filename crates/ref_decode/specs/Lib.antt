@@ -5,3 +5,4 @@ pub mod History
 pub mod Steps
 pub mod Loss
 pub mod Run
+pub mod Marked
