@@ -231,17 +231,19 @@ fn main() {
         );
     }
     #[cfg(leaf_renormalise_vector)]
-    row(
-        "renormalise_vector, width 176",
-        least(rounds, &x[..176], 176, |x, out| unsafe {
-            leaf_renormalise_vector(x.as_mut_ptr(), x.len());
-            out.copy_from_slice(x);
-        }),
-        least(rounds, &x[..176], 176, |x, out| {
-            band_quant::renormalise_vector(x, 1.0);
-            out.copy_from_slice(x);
-        }),
-    );
+    for n in [8, 176] {
+        row(
+            &format!("renormalise_vector, width {n}"),
+            least(rounds, &x[..n], n, |x, out| unsafe {
+                leaf_renormalise_vector(x.as_mut_ptr(), x.len());
+                out.copy_from_slice(x);
+            }),
+            least(rounds, &x[..n], n, |x, out| {
+                band_quant::renormalise_vector(x, 1.0);
+                out.copy_from_slice(x);
+            }),
+        );
+    }
     // The published transform's sum differs in the last place now and then; time is against it,
     // equality against the stand-in.
     #[cfg(leaf_imdct)]
