@@ -2,14 +2,14 @@
 use mathlib.Core.Path.{_≡_, refl, ap, ap₂, _∙_, sym}
 use mathlib.Core.List.{List, [], _∷_, _++_}
 use mathlib.Core.Bool.{Bool, true, false, cond, _&&_}
-use Prim.Native.Nat.{ℕ, zero, suc, _+_, _*_, _-_, _/_, _%_, _≤_, _<_}
+use Prim.Native.Nat.{ℕ, _+_, _*_, _-_, _/_, _%_, _≤_, _<_}
 use native.Mathlib.Omega.{arith}
-use native.Mathlib.Nat.{add-mul, one-mul, zero-mul, mul-le-mul-right, div-add-mod', div-mul-le-self, mul-comm}
+use native.Mathlib.Nat.{add-mul, one-mul, mul-le-mul-right, div-add-mod', div-mul-le-self}
 use lib.ListN.{length, getD, drop, set, drop-of-length-le}
 use lib.Dec.{leb, eqb}
 use lib.Ieee.{Float, nan}
 use borrow.Author.Tests.{leb-true, eqb-true, eq-eqb, ne-eqb}
-use Rattle.loops.specs.Fold.{foldTo, fold-more, fold-none}
+use Rattle.loops.specs.Fold.{fold-more, fold-none}
 use Rattle.loops.specs.Front.{tab, front, tab-same}
 use Rattle.loops.specs.Pick.{pick-true, pick-false}
 use Rattle.deemphasis.specs.Deemphasis.{next, memoryTo, scaled, sampleAt, valueAt, fits, Room, deemphasis, length-pcm, Left, left, deemphasisMono, deemphasisStereo}

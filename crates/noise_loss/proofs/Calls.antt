@@ -1,7 +1,7 @@
 -- What the functions that call others rest on.
 use mathlib.Core.Path.{_≡_, refl, ap, ap₂, _∙_, sym}
 use mathlib.Core.List.{List, [], _∷_, _++_, append-assoc, append-nil}
-use mathlib.Core.Bool.{Bool, true, false, cond, _&&_}
+use mathlib.Core.Bool.{Bool, true, false, _&&_}
 use Prim.Native.Nat.{ℕ, zero, suc, _+_, _*_, _-_, _^_, _≤_, _<_}
 use native.Mathlib.Omega.{arith}
 use lib.ListN.{length, take, drop, replicate, length-append, length-drop, length-replicate, drop-of-length-le}
@@ -18,7 +18,7 @@ use Rattle.noise_loss.specs.Shape.{noiseShape}
 use Rattle.noise_loss.specs.Spectrum.{zero32, gainTurn, bound, cleared, spectrum}
 use Rattle.noise_loss.specs.Block.{windowed, noiseBlock}
 use Rattle.noise_loss.specs.Laid.{overlapped, laid, covered}
-use Rattle.noise_loss.specs.Channel.{settingsFit, Left, left, blockLeft, channelLeft}
+use Rattle.noise_loss.specs.Channel.{and-true, settingsFit, Left, left, blockLeft, channelLeft}
 
 -- ---- the first k of an array of n zeros, lent and come back as y
 
@@ -96,10 +96,6 @@ cover-is n at h block y lh a b ea lb ey =
     slice120 k b = drop 120 (take k b)
 
 -- ---- refusals
-
-and-true : (a b : Bool) → (a && b) ≡ true → (a ≡ true) × (b ≡ true)
-and-true true b e = (refl, e)
-and-true false b e = (e, sym (ap (λ z. cond z b true) e))
 
 and-false : (a b : Bool) → b ≡ false → (a && b) ≡ false
 and-false true b e = e

@@ -1,20 +1,20 @@
 -- What the loops of the noise path rest on.
-use mathlib.Core.Path.{_≡_, refl, ap, ap₂, _∙_, sym}
+use mathlib.Core.Path.{_≡_, ap, ap₂, _∙_, sym}
 use mathlib.Core.List.{List, [], _∷_, _++_, map, append-assoc, append-nil}
-use mathlib.Core.Bool.{Bool, true, false, cond, not, _&&_}
-use Prim.Native.Nat.{ℕ, zero, suc, _+_, _*_, _-_, _/_, _%_, _^_, _≤_, _<_}
+use mathlib.Core.Bool.{cond, not}
+use Prim.Native.Nat.{ℕ, _+_, _*_, _-_, _/_, _%_, _^_, _≤_, _<_}
 use native.Mathlib.Omega.{arith}
 use native.Mathlib.Numerals.{add-one}
 use native.Mathlib.Nat.{one-mul}
 use lib.Pow.{pow-pos, pow-mono, shl-exact}
-use lib.ListN.{length, getD, set, take, drop, length-append, length-drop, take-append-drop}
+use lib.ListN.{length, getD, set, take, drop, length-append, take-append-drop}
 use lib.Seq.{slice, slice-empty, length-slice, length-take-le, take-suc, take-at, take-all, drop-append-le, getD-append-add, getD-drop}
-use lib.Dec.{leb, ltb, eqb, lit<}
+use lib.Dec.{leb, lit<}
 use lib.Ieee.{Float, nan, binary32, sub, add}
-use borrow.Author.Tests.{lt-ltb, le-ltb, lt-leb, le-leb, eq-eqb, ne-eqb}
+use borrow.Author.Tests.{lt-ltb, le-ltb, lt-leb, eq-eqb, ne-eqb}
 use Rattle.loops.specs.Fold.{foldRange, range-more}
 use Rattle.loops.specs.Front.{front, tab, length-tab, tab-read, tab-more, tab-all, front-write, front-all}
-use Rattle.loops.specs.Pick.{pick-true, pick-false}
+use Rattle.loops.specs.Pick.{pick-false}
 use Rattle.band_quant.specs.Draw.{draws}
 use Rattle.custom_mode.specs.Mode.{edge}
 use Rattle.noise_loss.specs.Energies.{decay, drops, droppedAt, lowerEnergies}

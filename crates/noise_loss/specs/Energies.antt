@@ -1,5 +1,5 @@
 -- Which energies a noise loss reads, and which drop. Both channels' energies stand in a flat list of 50, band i of channel c at 25 c + i.
-use mathlib.Core.Path.{_≡_, refl, ap, _∙_}
+use mathlib.Core.Path.{_≡_, refl}
 use mathlib.Core.List.{List}
 use mathlib.Core.Bool.{Bool, true, false, cond, _&&_}
 use Prim.Native.Nat.{ℕ, _/_, _%_}

@@ -1,16 +1,20 @@
 -- A noise block laid over the newest N samples of a channel. The history is not rolled.
-use mathlib.Core.Path.{_≡_, refl, ap, _∙_}
-use mathlib.Core.List.{List, _++_}
-use Prim.Native.Nat.{ℕ, _+_, _*_, _-_, _≤_}
+use mathlib.Core.Path.{_≡_, ap, sym, _∙_}
+use mathlib.Core.List.{List, _++_, append-assoc}
+use Prim.Native.Nat.{ℕ, _+_, _-_, _≤_}
 use native.Mathlib.Omega.{arith}
 use lib.ListN.{length, getD, take, drop, length-append, length-drop}
-use lib.Seq.{slice, length-slice, length-take-le, take-append-le, take-take}
+use lib.Seq.{slice, length-slice, length-take-le, take-append-le, take-take, drop-at}
 use lib.Ieee.{Float, nan, binary32, add}
 use Rattle.loops.specs.Front.{tab, length-tab}
 
 -- the block's first 120 samples, each added to the old overlap
 unfoldable pub overlapped : List Float → List Float → List Float
 overlapped block over = tab (λ (j : ℕ). add binary32 (getD block j nan) (getD over j nan)) 120
+
+pub length-overlapped : (block over : List Float) → length (overlapped block over) ≡ 120
+unfolding overlapped
+length-overlapped block over = length-tab _ 120
 
 -- the n samples of a block, of its n + 120
 unfoldable pub laid : ℕ → List Float → List Float → List Float
@@ -21,10 +25,8 @@ unfoldable pub covered : ℕ → List Float → List Float → List Float
 covered n block h = take (2048 - n) h ++ (laid n block (drop 2048 h) ++ drop n block)
 
 pub length-laid : (n : ℕ) (block over : List Float) → 120 ≤ n → n ≤ length block → length (laid n block over) ≡ n
-unfolding laid overlapped
-length-laid n block over h l =
-    let f : ℕ → Float = λ (j : ℕ). add binary32 (getD block j nan) (getD over j nan) in
-    omega (arith, length-append (tab f 120) (slice 120 n block), length-tab f 120, length-slice 120 n block l)
+unfolding laid
+length-laid n block over h l = simp (length-append, length-overlapped) (omega (arith, length-slice 120 n block l))
 
 pub length-covered : (n : ℕ) (block h : List Float) → 120 ≤ n → n ≤ 2048 → length block ≡ n + 120 → length h ≡ 2168 → length (covered n block h) ≡ 2168
 unfolding covered
@@ -44,3 +46,17 @@ unfolding covered
 covered-keeps n k block h a l =
     take-append-le k (take (2048 - n) h) (laid n block (drop 2048 h) ++ drop n block) (omega (arith, length-take-le (2048 - n) h (omega arith)))
     ∙ take-take k (2048 - n) h (omega arith)
+
+-- the new overlap is the block's last 120 samples, whatever the history was
+pub covered-over : (n : ℕ) (block h : List Float) → 120 ≤ n → n ≤ 2048 → length block ≡ n + 120 → length h ≡ 2168 → drop 2048 (covered n block h) ≡ drop n block
+unfolding covered
+covered-over n block h a b l k =
+    let front = take (2048 - n) h ++ laid n block (drop 2048 h) in
+    let e : length front ≡ 2048 =
+    omega (
+      arith,
+      length-append (take (2048 - n) h) (laid n block (drop 2048 h)),
+      length-take-le (2048 - n) h (omega arith),
+      length-laid n block (drop 2048 h) a (omega arith),
+    ) in
+    ap (drop 2048) (sym (append-assoc (take (2048 - n) h) (laid n block (drop 2048 h)) (drop n block))) ∙ drop-at front (drop n block) 2048 e

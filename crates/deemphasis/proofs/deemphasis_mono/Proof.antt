@@ -1,45 +1,31 @@
-use mathlib.Core.Path.{_≡_, refl, ap, _∙_, sym}
-use mathlib.Core.List.{List, [], _∷_, _++_}
-use mathlib.Core.Logic.{⊎-elim}
-use Prim.Native.Nat.{ℕ, zero, suc, _+_, _≤_, _<_, _-_}
-use native.Mathlib.Omega.{arith}
-use native.Mathlib.Numerals.{add-one}
-use lib.ListN.{length, getD, set, take, drop, length-set}
+use mathlib.Core.Path.{_≡_, _∙_, sym}
+use Prim.Native.Nat.{_-_}
+use lib.ListN.{length}
 use borrow.Author.Needs.{needs}
 use Rattle.deemphasis.proofs.Laws.{room, mono-done, mono-refused}
 use Rattle.deemphasis.proofs.deemphasis_mono.Statement.{statement}
 use Rattle.deemphasis.proofs.deemphasis_mono.Tie as tie
-use Rattle.deemphasis.proofs.deemphasis_mono.Reads as reads
-use Rattle.deemphasis.proofs.deemphasis_mono.Lts as lts
-use Rattle.deemphasis.proofs.filter_mono.Reads as filter-mono-reads
-use Rattle.deemphasis.proofs.has_room.Reads as has-room-reads
 
 two : (c : tie.Start) → length (c .args .t2) ≡ 2
 two c = search needs
 
--- src/lib.rt:108:9
 has-room-requires : tie.Need-has-room-requires
 has-room-requires c κs = search needs
 
--- src/lib.rt:111:35
 array-read-filter-mono : tie.Need-array-read-filter-mono
 array-read-filter-mono c = search needs
 
--- src/lib.rt:111:20
 filter-mono-requires : tie.Need-filter-mono-requires
 filter-mono-requires c κs =
     let a = c .before .before .before .before .before .args in
     room (a .downsample) (length (a .v .now)) (length (a .pcm .now)) (sym (c .before .before .has-room .ensures) ∙ c .before .if1 .taken)
 
--- src/lib.rt:111:9
 array-write-after : tie.Need-array-write-after
 array-write-after c = search needs
 
--- src/lib.rt:112:9
 same-length : tie.Need-same-length
 same-length c = search needs
 
--- src/lib.rt:112:9
 returns : tie.Need-returns
 returns c =
     let o = c .before .before .before .before in
@@ -47,7 +33,6 @@ returns c =
     mono-done (a .downsample) (a .v .now) (a .t2) (a .pcm .now) (two (o .before .before .before .before)) (sym (o .before .has-room .ensures) ∙ o .if1 .taken)
     (c .before .before .filter-mono .result) (c .before .before .filter-mono .last .1 .1 .1 .0) (c .before .before .filter-mono .ensures .0) (c .before .before .filter-mono .ensures .1)
 
--- src/lib.rt:104:1
 returns-2 : tie.Need-returns-2
 returns-2 c =
     let a = c .before .before .before .before .args in

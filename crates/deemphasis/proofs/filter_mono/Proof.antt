@@ -1,21 +1,15 @@
-use mathlib.Core.Path.{_≡_, refl, ap, _∙_, sym}
-use mathlib.Core.List.{List, [], _∷_, _++_}
-use mathlib.Core.Logic.{⊎-elim}
-use Prim.Native.Nat.{ℕ, zero, suc, _+_, _≤_, _<_, _-_, _*_, _/_}
+use mathlib.Core.Path.{_≡_, ap, _∙_}
+use mathlib.Core.List.{[], _∷_}
+use Prim.Native.Nat.{ℕ, _+_, _≤_, _-_, _*_, _/_}
 use native.Mathlib.Omega.{arith}
-use native.Mathlib.Numerals.{add-one}
-use lib.ListN.{length, getD, set, take, drop, length-set}
+use lib.ListN.{length, length-set}
 use borrow.Author.Needs.{needs}
 use lib.Ieee.{Float, nan}
 use Rattle.loops.specs.Front.{front, tab, tab-none, tab-more}
-use Rattle.deemphasis.specs.Deemphasis.{memoryTo, valueAt, scaled}
+use Rattle.deemphasis.specs.Deemphasis.{memoryTo, valueAt}
 use Rattle.deemphasis.proofs.Laws.{next-in, next-is, all-samples, memory-none, memory-more, value-mono}
 use Rattle.deemphasis.proofs.filter_mono.Statement.{statement}
 use Rattle.deemphasis.proofs.filter_mono.Tie as tie
-use Rattle.deemphasis.proofs.filter_mono.Reads as reads
-use Rattle.deemphasis.proofs.filter_mono.Lts as lts
-use Rattle.deemphasis.proofs.next_memory.Reads as next-memory-reads
-use Rattle.deemphasis.proofs.pcm_value.Reads as pcm-value-reads
 
 abbrev Inv-loop2 : tie.InvT-loop2
 Inv-loop2 v memory downsample pcm count mem₀ j₀ q next mem j = (j ≤ next) × (next ≤ length v) × (mem ≡ memoryTo v memory j)
@@ -38,87 +32,69 @@ inside c =
     let a = c .before .before .before .before .args in
     omega (arith, next-in (h .q) (a .downsample) (length (a .v .now)) (c .loop-test .taken))
 
--- src/lib.rt:60:17
 div-count : tie.Need-div-count Inv-loop2 μ-loop2 Inv-loop μ-loop
 div-count c = search needs
 
--- src/lib.rt:63:5
 loop-holds : tie.Need-loop-holds Inv-loop2 μ-loop2 Inv-loop μ-loop
 loop-holds c =
     let a = c .before .before .args in
     (search needs, search needs, search needs, memory-none (a .v .now) (a .memory), tab-none (valueAt (a .downsample) (a .v .now ∷ []) (a .memory ∷ [])) (a .pcm .now))
 
--- src/lib.rt:64:33
 mul-pcm-value : tie.Need-mul-pcm-value Inv-loop2 μ-loop2 Inv-loop μ-loop
 mul-pcm-value c =
     let e = inside c in search needs
 
--- src/lib.rt:64:33
 shared-slice-read-pcm-value :
     tie.Need-shared-slice-read-pcm-value Inv-loop2 μ-loop2 Inv-loop μ-loop
 shared-slice-read-pcm-value c =
     let e = inside (c .before) in search needs
 
--- src/lib.rt:64:18
 pcm-value-requires : tie.Need-pcm-value-requires Inv-loop2 μ-loop2 Inv-loop μ-loop
 pcm-value-requires c κs = search needs
 
--- src/lib.rt:64:9
 mul-pcm : tie.Need-mul-pcm Inv-loop2 μ-loop2 Inv-loop μ-loop
 mul-pcm c = search needs
 
--- src/lib.rt:64:9
 slice-write-pcm : tie.Need-slice-write-pcm Inv-loop2 μ-loop2 Inv-loop μ-loop
 slice-write-pcm c = search needs
 
--- src/lib.rt:65:20
 add-next : tie.Need-add-next Inv-loop2 μ-loop2 Inv-loop μ-loop
 add-next c =
     let e = inside (c .before .before) in search needs
 
--- src/lib.rt:66:9
 loop2-holds : tie.Need-loop2-holds Inv-loop2 μ-loop2 Inv-loop μ-loop
 loop2-holds c =
     let e = inside (c .before .before) in
     (search needs, search needs, search needs)
 
--- src/lib.rt:67:36
 mul-next-memory : tie.Need-mul-next-memory Inv-loop2 μ-loop2 Inv-loop μ-loop
 mul-next-memory c = search needs
 
--- src/lib.rt:67:36
 shared-slice-read-next-memory :
     tie.Need-shared-slice-read-next-memory Inv-loop2 μ-loop2 Inv-loop μ-loop
 shared-slice-read-next-memory c = search needs
 
--- src/lib.rt:67:13
 next-memory-requires : tie.Need-next-memory-requires Inv-loop2 μ-loop2 Inv-loop μ-loop
 next-memory-requires c κs = search needs
 
--- src/lib.rt:68:13
 add-j : tie.Need-add-j Inv-loop2 μ-loop2 Inv-loop μ-loop
 add-j c = search needs
 
--- src/lib.rt:66:9
 loop2-less : tie.Need-loop2-less Inv-loop2 μ-loop2 Inv-loop μ-loop
 loop2-less c = search needs
 
--- src/lib.rt:66:9
 loop2-again : tie.Need-loop2-again Inv-loop2 μ-loop2 Inv-loop μ-loop
 loop2-again c =
     let h = c .before .before .before .loop2 in
     let a = c .before .before .before .before .before .before .before .before .before .before .args in
     (search needs, search needs, ap (λ z. z) (c .next-memory .ensures) ∙ memory-more (a .v .now) (a .memory) (h .mem) (h .j) (h .inv .2))
 
--- src/lib.rt:63:9
 add-q : tie.Need-add-q Inv-loop2 μ-loop2 Inv-loop μ-loop
 add-q c = search needs
 
--- src/lib.rt:63:5
 loop-less : tie.Need-loop-less Inv-loop2 μ-loop2 Inv-loop μ-loop
 loop-less c = search needs
 
--- src/lib.rt:63:5
 loop-again : tie.Need-loop-again Inv-loop2 μ-loop2 Inv-loop μ-loop
 loop-again c =
     let o = c .before .before .before .before .before in
@@ -134,11 +110,9 @@ loop-again c =
       tab-more f nan (a .pcm .now) (h .pcm) (h .q) (h .inv .4) (c .before .before .pcm-value .result) r (omega arith),
     )
 
--- src/lib.rt:56:1
 same-length : tie.Need-same-length Inv-loop2 μ-loop2 Inv-loop μ-loop
 same-length c = search needs
 
--- src/lib.rt:56:1
 returns : tie.Need-returns Inv-loop2 μ-loop2 Inv-loop μ-loop
 returns c =
     let h = c .before .loop in

@@ -1,21 +1,15 @@
-use mathlib.Core.Path.{_≡_, refl, ap, ap₂, _∙_, sym}
-use mathlib.Core.List.{List, [], _∷_, _++_}
-use mathlib.Core.Logic.{⊎-elim}
-use Prim.Native.Nat.{ℕ, zero, suc, _+_, _≤_, _<_, _-_, _*_, _/_}
+use mathlib.Core.Path.{_≡_, ap, ap₂, _∙_}
+use mathlib.Core.List.{List, [], _∷_}
+use Prim.Native.Nat.{ℕ, _+_, _≤_, _-_, _*_, _/_}
 use native.Mathlib.Omega.{arith}
-use native.Mathlib.Numerals.{add-one}
-use lib.ListN.{length, getD, set, take, drop, length-set}
+use lib.ListN.{length, set, length-set}
 use borrow.Author.Needs.{needs}
 use lib.Ieee.{Float, nan}
 use Rattle.loops.specs.Front.{front, tab, tab-none, tab-more}
-use Rattle.deemphasis.specs.Deemphasis.{memoryTo, valueAt, scaled}
+use Rattle.deemphasis.specs.Deemphasis.{memoryTo, valueAt}
 use Rattle.deemphasis.proofs.Laws.{next-in, next-is, all-samples, memory-none, memory-more, value-first, value-second}
 use Rattle.deemphasis.proofs.filter_stereo.Statement.{statement}
 use Rattle.deemphasis.proofs.filter_stereo.Tie as tie
-use Rattle.deemphasis.proofs.filter_stereo.Reads as reads
-use Rattle.deemphasis.proofs.filter_stereo.Lts as lts
-use Rattle.deemphasis.proofs.next_memory.Reads as next-memory-reads
-use Rattle.deemphasis.proofs.pcm_value.Reads as pcm-value-reads
 
 abbrev Inv-loop2 : tie.InvT-loop2
 Inv-loop2 v w left right downsample pcm count first₀ second₀ j₀ q next first second j =
@@ -41,11 +35,9 @@ inside c =
     let a = c .before .before .before .before .before .args in
     omega (arith, next-in (h .q) (a .downsample) (length (a .v .now)) (c .loop-test .taken))
 
--- src/lib.rt:86:17
 div-count : tie.Need-div-count Inv-loop2 μ-loop2 Inv-loop μ-loop
 div-count c = search needs
 
--- src/lib.rt:90:5
 loop-holds : tie.Need-loop-holds Inv-loop2 μ-loop2 Inv-loop μ-loop
 loop-holds c =
     let a = c .before .before .before .args in (
@@ -57,110 +49,86 @@ loop-holds c =
       tab-none (valueAt (a .downsample) (a .v .now ∷ a .w .now ∷ []) (a .left ∷ a .right ∷ [])) (a .pcm .now),
     )
 
--- src/lib.rt:91:39
 mul-pcm-value : tie.Need-mul-pcm-value Inv-loop2 μ-loop2 Inv-loop μ-loop
 mul-pcm-value c =
     let e = inside c in search needs
 
--- src/lib.rt:91:39
 shared-slice-read-pcm-value :
     tie.Need-shared-slice-read-pcm-value Inv-loop2 μ-loop2 Inv-loop μ-loop
 shared-slice-read-pcm-value c =
     let e = inside (c .before) in search needs
 
--- src/lib.rt:91:22
 pcm-value-requires : tie.Need-pcm-value-requires Inv-loop2 μ-loop2 Inv-loop μ-loop
 pcm-value-requires c κs = search needs
 
--- src/lib.rt:91:13
 mul-pcm : tie.Need-mul-pcm Inv-loop2 μ-loop2 Inv-loop μ-loop
 mul-pcm c = search needs
 
--- src/lib.rt:91:9
 mul-pcm-2 : tie.Need-mul-pcm-2 Inv-loop2 μ-loop2 Inv-loop μ-loop
 mul-pcm-2 c = search needs
 
--- src/lib.rt:91:9
 slice-write-pcm : tie.Need-slice-write-pcm Inv-loop2 μ-loop2 Inv-loop μ-loop
 slice-write-pcm c = search needs
 
--- src/lib.rt:92:44
 mul-pcm-value-2 : tie.Need-mul-pcm-value-2 Inv-loop2 μ-loop2 Inv-loop μ-loop
 mul-pcm-value-2 c =
     let e = inside (c .before .before) in search needs
 
--- src/lib.rt:92:44
 shared-slice-read-pcm-value-2 :
     tie.Need-shared-slice-read-pcm-value-2 Inv-loop2 μ-loop2 Inv-loop μ-loop
 shared-slice-read-pcm-value-2 c =
     let e = inside (c .before .before .before) in search needs
 
--- src/lib.rt:92:26
 pcm-value-requires-2 : tie.Need-pcm-value-requires-2 Inv-loop2 μ-loop2 Inv-loop μ-loop
 pcm-value-requires-2 c κs = search needs
 
--- src/lib.rt:92:13
 mul-pcm-3 : tie.Need-mul-pcm-3 Inv-loop2 μ-loop2 Inv-loop μ-loop
 mul-pcm-3 c = search needs
 
--- src/lib.rt:92:13
 add-pcm : tie.Need-add-pcm Inv-loop2 μ-loop2 Inv-loop μ-loop
 add-pcm c = search needs
 
--- src/lib.rt:92:9
 mul-pcm-4 : tie.Need-mul-pcm-4 Inv-loop2 μ-loop2 Inv-loop μ-loop
 mul-pcm-4 c = search needs
 
--- src/lib.rt:92:9
 slice-write-pcm-2 : tie.Need-slice-write-pcm-2 Inv-loop2 μ-loop2 Inv-loop μ-loop
 slice-write-pcm-2 c = simp length-set (search needs)
 
--- src/lib.rt:93:20
 add-next : tie.Need-add-next Inv-loop2 μ-loop2 Inv-loop μ-loop
 add-next c =
     let e = inside (c .before .before .before .before) in search needs
 
--- src/lib.rt:94:9
 loop2-holds : tie.Need-loop2-holds Inv-loop2 μ-loop2 Inv-loop μ-loop
 loop2-holds c =
     let e = inside (c .before .before .before .before) in
     (search needs, search needs, search needs, search needs)
 
--- src/lib.rt:95:40
 mul-next-memory : tie.Need-mul-next-memory Inv-loop2 μ-loop2 Inv-loop μ-loop
 mul-next-memory c = search needs
 
--- src/lib.rt:95:40
 shared-slice-read-next-memory :
     tie.Need-shared-slice-read-next-memory Inv-loop2 μ-loop2 Inv-loop μ-loop
 shared-slice-read-next-memory c = search needs
 
--- src/lib.rt:95:13
 next-memory-requires : tie.Need-next-memory-requires Inv-loop2 μ-loop2 Inv-loop μ-loop
 next-memory-requires c κs = search needs
 
--- src/lib.rt:96:42
 mul-next-memory-2 : tie.Need-mul-next-memory-2 Inv-loop2 μ-loop2 Inv-loop μ-loop
 mul-next-memory-2 c = search needs
 
--- src/lib.rt:96:42
 shared-slice-read-next-memory-2 :
     tie.Need-shared-slice-read-next-memory-2 Inv-loop2 μ-loop2 Inv-loop μ-loop
 shared-slice-read-next-memory-2 c = search needs
 
--- src/lib.rt:96:13
 next-memory-requires-2 : tie.Need-next-memory-requires-2 Inv-loop2 μ-loop2 Inv-loop μ-loop
 next-memory-requires-2 c κs = search needs
 
--- src/lib.rt:97:13
 add-j : tie.Need-add-j Inv-loop2 μ-loop2 Inv-loop μ-loop
 add-j c = search needs
 
--- src/lib.rt:94:9
 loop2-less : tie.Need-loop2-less Inv-loop2 μ-loop2 Inv-loop μ-loop
 loop2-less c = search needs
 
--- src/lib.rt:94:9
 loop2-again : tie.Need-loop2-again Inv-loop2 μ-loop2 Inv-loop μ-loop
 loop2-again c =
     let h = c .before .before .before .before .before .loop2 in
@@ -171,15 +139,12 @@ loop2-again c =
       c .next-memory2 .ensures ∙ memory-more (a .w .now) (a .right) (h .second) (h .j) (h .inv .3),
     )
 
--- src/lib.rt:90:9
 add-q : tie.Need-add-q Inv-loop2 μ-loop2 Inv-loop μ-loop
 add-q c = search needs
 
--- src/lib.rt:90:5
 loop-less : tie.Need-loop-less Inv-loop2 μ-loop2 Inv-loop μ-loop
 loop-less c = search needs
 
--- src/lib.rt:90:5
 loop-again : tie.Need-loop-again Inv-loop2 μ-loop2 Inv-loop μ-loop
 loop-again c =
     let o = c .before .before .before .before .before .before .before in
@@ -204,11 +169,9 @@ loop-again c =
       tab-more f nan (a .pcm .now) (set (h .pcm) (2 * h .q) x) (2 * h .q + 1) one y t (omega arith) ∙ ap (λ z. front (tab f z) (a .pcm .now) z) k,
     )
 
--- src/lib.rt:75:1
 same-length : tie.Need-same-length Inv-loop2 μ-loop2 Inv-loop μ-loop
 same-length c = search needs
 
--- src/lib.rt:75:1
 returns : tie.Need-returns Inv-loop2 μ-loop2 Inv-loop μ-loop
 returns c =
     let h = c .before .loop in

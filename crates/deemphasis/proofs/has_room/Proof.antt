@@ -1,12 +1,9 @@
-use mathlib.Core.Path.{refl}
 use Prim.Native.Nat.{_%_}
 use borrow.Author.Needs.{needs}
 use borrow.Author.Tests.{lt-leb, le-leb, ne-eqb, eq-eqb}
 use Rattle.deemphasis.specs.Deemphasis.{fits}
 use Rattle.deemphasis.proofs.has_room.Statement.{statement}
 use Rattle.deemphasis.proofs.has_room.Tie as tie
-use Rattle.deemphasis.proofs.has_room.Reads as reads
-use Rattle.deemphasis.proofs.has_room.Lts as lts
 
 returns : tie.Need-returns
 unfolding fits

@@ -1,59 +1,42 @@
-use mathlib.Core.Path.{_≡_, refl, ap, ap₂, _∙_, sym}
-use mathlib.Core.List.{List, [], _∷_, _++_}
-use Prim.Native.Nat.{ℕ, zero, suc, _+_, _≤_, _<_, _-_, _*_, _/_, _%_, _^_}
+use mathlib.Core.Path.{_≡_, sym}
+use Prim.Native.Nat.{_-_}
 use native.Mathlib.Omega.{arith}
-use lib.ListN.{length, getD, set, take, drop, length-set}
+use lib.ListN.{length}
 use lib.Seq.{length-take-le}
 use borrow.Author.Needs.{needs}
 use Rattle.deemphasis_run.proofs.answer_frame.Statement.{statement}
 use Rattle.deemphasis_run.proofs.answer_frame.Tie as tie
-use Rattle.deemphasis_run.proofs.answer_frame.Reads as reads
-use Rattle.deemphasis_run.proofs.answer_frame.Lts as lts
-use Rattle.deemphasis_run.proofs.sound.Reads as sound-reads
-use Rattle.deemphasis_run.proofs.words.read_floats.Reads as read-floats-reads
-use Rattle.deemphasis_run.proofs.words.write_floats.Reads as write-floats-reads
 
--- src/main.rt:41:28
 slice-aggregate-read-floats : tie.Need-slice-aggregate-read-floats
 slice-aggregate-read-floats c = search needs
 
--- src/main.rt:41:9
 read-floats-requires : tie.Need-read-floats-requires
 read-floats-requires c κs = search needs
 
--- src/main.rt:42:9
 returns : tie.Need-returns
 returns c = search needs
 
--- src/main.rt:45:28
 slice-aggregate-read-floats-2 : tie.Need-slice-aggregate-read-floats-2
 slice-aggregate-read-floats-2 c = search needs
 
--- src/main.rt:45:9
 read-floats-requires-2 : tie.Need-read-floats-requires-2
 read-floats-requires-2 c κs = search needs
 
--- src/main.rt:46:9
 returns-2 : tie.Need-returns-2
 returns-2 c = search needs
 
--- src/main.rt:49:28
 slice-aggregate-read-floats-3 : tie.Need-slice-aggregate-read-floats-3
 slice-aggregate-read-floats-3 c = search needs
 
--- src/main.rt:49:9
 read-floats-requires-3 : tie.Need-read-floats-requires-3
 read-floats-requires-3 c κs = search needs
 
--- src/main.rt:50:9
 returns-3 : tie.Need-returns-3
 returns-3 c = search needs
 
--- src/main.rt:53:27
 array-share-prefix-v : tie.Need-array-share-prefix-v
 array-share-prefix-v c = search needs
 
--- src/main.rt:53:27
 slice-aggregate-sound : tie.Need-slice-aggregate-sound
 slice-aggregate-sound c =
     let o = c .before .before .before .before .before .before .before .before .before .before .before .before .before in
@@ -61,11 +44,9 @@ slice-aggregate-sound c =
     let e : length (r .last .0) ≡ 960 = r .kept .0 in
     sym (length-take-le (o .args .n) (r .last .0) (omega (arith, o .pre)))
 
--- src/main.rt:53:36
 array-share-prefix-w : tie.Need-array-share-prefix-w
 array-share-prefix-w c = search needs
 
--- src/main.rt:53:36
 slice-aggregate-sound-2 : tie.Need-slice-aggregate-sound-2
 slice-aggregate-sound-2 c =
     let o = c .before .before .before .before .before .before .before .before .before .before .before .before .before .before in
@@ -73,39 +54,30 @@ slice-aggregate-sound-2 c =
     let e : length (r .last .0) ≡ 960 = r .kept .0 in
     sym (length-take-le (o .args .n) (r .last .0) (omega (arith, o .pre)))
 
--- src/main.rt:53:67
 slice-aggregate-sound-3 : tie.Need-slice-aggregate-sound-3
 slice-aggregate-sound-3 c = search needs
 
--- src/main.rt:53:9
 sound-requires : tie.Need-sound-requires
 sound-requires c κs = search needs
 
--- src/main.rt:55:9
 returns-4 : tie.Need-returns-4
 returns-4 c = search needs
 
--- src/main.rt:57:29
 slice-aggregate-write-floats : tie.Need-slice-aggregate-write-floats
 slice-aggregate-write-floats c = search needs
 
--- src/main.rt:57:9
 write-floats-requires : tie.Need-write-floats-requires
 write-floats-requires c κs = search needs
 
--- src/main.rt:58:9
 returns-5 : tie.Need-returns-5
 returns-5 c = search needs
 
--- src/main.rt:61:25
 slice-aggregate-write-floats-2 : tie.Need-slice-aggregate-write-floats-2
 slice-aggregate-write-floats-2 c = search needs
 
--- src/main.rt:61:5
 write-floats-requires-2 : tie.Need-write-floats-requires-2
 write-floats-requires-2 c κs = search needs
 
--- src/main.rt:37:1
 returns-6 : tie.Need-returns-6
 returns-6 c = search needs
 

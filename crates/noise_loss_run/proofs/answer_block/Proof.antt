@@ -1,21 +1,13 @@
-use mathlib.Core.Path.{_≡_, refl, ap, ap₂, _∙_, sym}
-use mathlib.Core.List.{List, [], _∷_, _++_}
-use Prim.Native.Nat.{ℕ, zero, suc, _+_, _≤_, _<_, _-_, _*_, _/_, _%_, _^_}
+use mathlib.Core.Path.{_≡_, sym}
+use mathlib.Core.List.{List, _++_}
+use Prim.Native.Nat.{ℕ, _+_, _≤_, _-_}
 use native.Mathlib.Omega.{arith}
-use lib.ListN.{length, getD, set, take, drop, length-set, replicate, length-replicate, length-append, length-drop}
+use lib.ListN.{length, take, drop, replicate, length-replicate, length-append, length-drop}
 use lib.Seq.{length-take-le}
 use lib.Ieee.{Float, binary32, ofBits}
 use borrow.Author.Needs.{needs}
 use Rattle.noise_loss_run.proofs.answer_block.Statement.{statement}
 use Rattle.noise_loss_run.proofs.answer_block.Tie as tie
-use Rattle.noise_loss_run.proofs.answer_block.Reads as reads
-use Rattle.noise_loss_run.proofs.answer_block.Lts as lts
-use Rattle.noise_loss.proofs.channel.noise_block.Reads as noise-block-reads
-use Rattle.noise_loss_run.proofs.block_size.Reads as block-size-reads
-use Rattle.noise_loss_run.proofs.read_head.Reads as read-head-reads
-use Rattle.noise_loss_run.proofs.words.read_floats.Reads as read-floats-reads
-use Rattle.noise_loss_run.proofs.words.write_floats.Reads as write-floats-reads
-use Rattle.noise_loss_run.proofs.words.write_word.Reads as write-word-reads
 
 abbrev zeros : List Float
 zeros = replicate 1080 (ofBits binary32 0)
@@ -27,66 +19,51 @@ lent k h = sym (length-take-le k zeros (omega (arith, length-replicate 1080 (ofB
 back : (k : ℕ) (y : List Float) → k ≤ 1080 → length y ≡ length (take k zeros) → 1080 ≡ length (y ++ drop k zeros)
 back k y h e = omega (arith, lent k h, length-append y (drop k zeros), length-drop k zeros, length-replicate 1080 (ofBits binary32 0))
 
--- src/main.rt:51:9
 read-head-requires : tie.Need-read-head-requires
 read-head-requires c κs = search needs
 
--- src/main.rt:53:28
 slice-aggregate-read-floats : tie.Need-slice-aggregate-read-floats
 slice-aggregate-read-floats c = search needs
 
--- src/main.rt:53:9
 read-floats-requires : tie.Need-read-floats-requires
 read-floats-requires c κs = search needs
 
--- src/main.rt:54:9
 returns : tie.Need-returns
 returns c = search needs
 
--- src/main.rt:57:9
 block-size-requires : tie.Need-block-size-requires
 block-size-requires c κs = search needs
 
--- src/main.rt:59:9
 array-borrow-prefix-block : tie.Need-array-borrow-prefix-block
 array-borrow-prefix-block c = search needs
 
--- src/main.rt:59:9
 slice-aggregate-noise-block : tie.Need-slice-aggregate-noise-block
 slice-aggregate-noise-block c = lent (c .before .block-size .result) (c .before .block-size .ensures)
 
--- src/main.rt:65:9
 slice-aggregate-noise-block-2 : tie.Need-slice-aggregate-noise-block-2
 slice-aggregate-noise-block-2 c = search needs
 
--- src/main.rt:58:9
 noise-block-requires : tie.Need-noise-block-requires
 noise-block-requires c κs = search needs
 
--- src/main.rt:68:9
 returns-2 : tie.Need-returns-2
 returns-2 c = search needs
 
--- src/main.rt:70:29
 slice-aggregate-write-floats : tie.Need-slice-aggregate-write-floats
 slice-aggregate-write-floats c =
     let b = c .before .before .before .before in
     let k = b .before .before .before .block-size in
     back (k .result) (b .noise-block .last .0) (k .ensures) (b .noise-block .kept .0)
 
--- src/main.rt:70:9
 write-floats-requires : tie.Need-write-floats-requires
 write-floats-requires c κs = search needs
 
--- src/main.rt:71:9
 returns-3 : tie.Need-returns-3
 returns-3 c = search needs
 
--- src/main.rt:73:5
 write-word-requires : tie.Need-write-word-requires
 write-word-requires c κs = search needs
 
--- src/main.rt:50:1
 returns-4 : tie.Need-returns-4
 returns-4 c = search needs
 

@@ -1,18 +1,11 @@
-use mathlib.Core.Path.{_≡_, refl, ap, ap₂, _∙_, sym}
-use mathlib.Core.List.{List, [], _∷_, _++_}
-use Prim.Native.Nat.{ℕ, zero, suc, _+_, _≤_, _<_, _-_, _*_, _/_, _%_, _^_}
+use mathlib.Core.Path.{sym}
+use Prim.Native.Nat.{_≤_, _-_, _*_}
 use native.Mathlib.Omega.{arith}
-use lib.ListN.{length, getD, set, take, drop, length-set}
 use borrow.Author.Needs.{needs}
 use Rattle.noise_loss.specs.Block.{noiseBlock}
 use Rattle.noise_loss.proofs.Calls.{lent-zeros, lent-count, back-size, back-is, back-in, back-count, block-is}
 use Rattle.noise_loss.proofs.block.fill_block.Statement.{statement}
 use Rattle.noise_loss.proofs.block.fill_block.Tie as tie
-use Rattle.noise_loss.proofs.block.fill_block.Reads as reads
-use Rattle.noise_loss.proofs.block.fill_block.Lts as lts
-use Rattle.mdct.proofs.imdct.imdct_naive_f32.Reads as imdct-naive-f32-reads
-use Rattle.noise_loss.proofs.block.window_outputs.Reads as window-outputs-reads
-use Rattle.noise_loss.proofs.spectrum.fill_spectrum.Reads as fill-spectrum-reads
 
 few : (c : tie.Start) → 120 ≤ 120 * c .args .m
 few c = omega (arith, c .pre .0)
@@ -23,63 +16,50 @@ small c = omega (arith, c .pre .1)
 twice : (c : tie.Start) → 2 * (120 * c .args .m) ≤ 1920
 twice c = omega (arith, c .pre .1)
 
--- src/block.rt:39:13
 mul-n : tie.Need-mul-n
 mul-n c = search needs
 
--- src/block.rt:40:13
 mul-k : tie.Need-mul-k
 mul-k c = search needs
 
--- src/block.rt:44:9
 array-borrow-prefix-bins : tie.Need-array-borrow-prefix-bins
 array-borrow-prefix-bins c = search needs
 
--- src/block.rt:44:9
 slice-aggregate-fill-spectrum : tie.Need-slice-aggregate-fill-spectrum
 slice-aggregate-fill-spectrum c =
     lent-count (120 * c .before .before .before .args .m) 960 (small (c .before .before .before))
 
--- src/block.rt:43:9
 fill-spectrum-requires : tie.Need-fill-spectrum-requires
 fill-spectrum-requires c κs =
     let p = c .before .before .before .pre in
     (p .1, p .3, p .4, p .5, lent-zeros (120 * c .before .before .before .args .m) 960 (small (c .before .before .before)), p .7)
 
--- src/block.rt:52:33
 array-share-prefix-bins : tie.Need-array-share-prefix-bins
 array-share-prefix-bins c =
     back-in (120 * c .before .before .before .before .before .args .m) 960 (small (c .before .before .before .before .before)) (c .before .fill-spectrum .last .0) (c .before .fill-spectrum .kept .0)
 
--- src/block.rt:52:33
 slice-aggregate-imdct-naive-f32 : tie.Need-slice-aggregate-imdct-naive-f32
 slice-aggregate-imdct-naive-f32 c =
     back-count (120 * c .before .before .before .before .before .before .args .m) 960 (small (c .before .before .before .before .before .before)) (c .before .before .fill-spectrum .last .0) (c .before .before .fill-spectrum .kept .0)
 
--- src/block.rt:52:45
 array-borrow-prefix-u : tie.Need-array-borrow-prefix-u
 array-borrow-prefix-u c = search needs
 
--- src/block.rt:52:45
 slice-aggregate-imdct-naive-f32-2 : tie.Need-slice-aggregate-imdct-naive-f32-2
 slice-aggregate-imdct-naive-f32-2 c =
     lent-count (2 * (120 * c .before .before .before .before .before .before .before .args .m)) 1920 (twice (c .before .before .before .before .before .before .before))
 
--- src/block.rt:52:9
 imdct-naive-f32-requires : tie.Need-imdct-naive-f32-requires
 imdct-naive-f32-requires c κs = search needs
 
--- src/block.rt:53:27
 array-share-prefix-u : tie.Need-array-share-prefix-u
 array-share-prefix-u c =
     back-in (2 * (120 * c .before .before .before .before .before .before .before .before .before .before .args .m)) 1920 (twice (c .before .before .before .before .before .before .before .before .before .before)) (c .before .before .imdct-naive-f32 .last .1 .0) (c .before .before .imdct-naive-f32 .kept .1 .0)
 
--- src/block.rt:53:27
 slice-aggregate-window-outputs : tie.Need-slice-aggregate-window-outputs
 slice-aggregate-window-outputs c =
     back-count (2 * (120 * c .before .before .before .before .before .before .before .before .before .before .before .args .m)) 1920 (twice (c .before .before .before .before .before .before .before .before .before .before .before)) (c .before .before .before .imdct-naive-f32 .last .1 .0) (c .before .before .before .imdct-naive-f32 .kept .1 .0)
 
--- src/block.rt:53:5
 window-outputs-requires : tie.Need-window-outputs-requires
 window-outputs-requires c κs =
     let o = c .before .before .before .before .before .before .before .before .before .before .before in
@@ -87,11 +67,9 @@ window-outputs-requires c κs =
     let p = o .pre in
     (few o, small o, sym (back-count (2 * (120 * o .args .m)) 1920 (twice o) (i .last .1 .0) (i .kept .1 .0)), p .6)
 
--- src/block.rt:27:1
 same-length : tie.Need-same-length
 same-length c = search needs
 
--- src/block.rt:27:1
 returns : tie.Need-returns
 unfolding noiseBlock
 returns c =

@@ -1,38 +1,26 @@
-use mathlib.Core.Path.{_≡_, refl, ap, ap₂, _∙_, sym}
-use mathlib.Core.List.{List, [], _∷_, _++_}
-use Prim.Native.Nat.{ℕ, zero, suc, _+_, _≤_, _<_, _-_, _*_, _/_, _%_, _^_}
+use mathlib.Core.Path.{_∙_, sym}
+use Prim.Native.Nat.{_-_}
 use native.Mathlib.Omega.{arith}
-use lib.ListN.{length, getD, set, take, drop, length-set}
 use borrow.Author.Needs.{needs}
-use Rattle.noise_loss.proofs.Calls.{Fits, fits, frame-fits, block-done, block-unfit, block-bands, block-size}
+use Rattle.noise_loss.proofs.Calls.{fits, frame-fits, block-done, block-unfit, block-bands, block-size}
 use Rattle.noise_loss.proofs.channel.noise_block.Statement.{statement}
 use Rattle.noise_loss.proofs.channel.noise_block.Tie as tie
-use Rattle.noise_loss.proofs.channel.noise_block.Reads as reads
-use Rattle.noise_loss.proofs.channel.noise_block.Lts as lts
-use Rattle.noise_loss.proofs.block.fill_block.Reads as fill-block-reads
-use Rattle.noise_loss.proofs.channel.factor.Reads as factor-reads
-use Rattle.noise_loss.proofs.channel.settings_fit.Reads as settings-fit-reads
 
--- src/channel.rt:50:8
 settings-fit-requires : tie.Need-settings-fit-requires
 settings-fit-requires c κs = search needs
 
--- src/channel.rt:51:13
 factor-requires : tie.Need-factor-requires
 factor-requires c κs =
     let o = c .before .before .before .before in
     let f = fits (o .args .lm) (o .args .start) (o .args .end) (o .args .downsample) (sym (c .before .settings-fit .ensures) ∙ c .if1 .taken) in
     f .small
 
--- src/channel.rt:53:24
 mul-if3 : tie.Need-mul-if3
 mul-if3 c = search needs
 
--- src/channel.rt:53:24
 add-if3 : tie.Need-add-if3
 add-if3 c = search needs
 
--- src/channel.rt:54:21
 fill-block-requires : tie.Need-fill-block-requires
 fill-block-requires c κs =
     let o = c .before .before .before .before .before .before .before .before in
@@ -40,11 +28,9 @@ fill-block-requires c κs =
     let f = fits (o .args .lm) (o .args .start) (o .args .end) (o .args .downsample) (sym (g .before .before .settings-fit .ensures) ∙ g .before .if1 .taken) in
     (g .factor .ensures .1, g .factor .ensures .2, frame-fits (o .args .lm) (g .factor .result) (f .small) (g .factor .ensures .0), omega arith, f .last, f .every, c .before .if3 .taken, c .before .before .if2 .taken)
 
--- src/channel.rt:55:17
 same-length : tie.Need-same-length
 same-length c = search needs
 
--- src/channel.rt:55:17
 returns : tie.Need-returns
 returns c =
     let g = c .before .before .before .before .before .before in
@@ -53,20 +39,17 @@ returns c =
     block-done (o .args .lm) (o .args .start) (o .args .end) (o .args .downsample) (o .args .seed) (o .args .energies .now) (o .args .block .now) (g .factor .result) (r .result) (r .last .0)
     (sym (g .before .before .settings-fit .ensures) ∙ g .before .if1 .taken) (c .before .before .before .before .before .if2 .taken) (c .before .before .before .before .if3 .taken) (g .factor .ensures .0) (r .ensures .0) (r .ensures .1)
 
--- src/channel.rt:37:1
 returns-2 : tie.Need-returns-2
 returns-2 c =
     let g = c .before .before in
     let o = g .before .before .before .before .before in
     block-size (o .args .lm) (o .args .start) (o .args .end) (o .args .downsample) (o .args .seed) (o .args .energies .now) (o .args .block .now) (g .factor .result) (g .factor .ensures .0) (c .if3 .left)
 
--- src/channel.rt:37:1
 returns-3 : tie.Need-returns-3
 returns-3 c =
     let o = c .before .before .before .before .before .before in
     block-bands (o .args .lm) (o .args .start) (o .args .end) (o .args .downsample) (o .args .seed) (o .args .energies .now) (o .args .block .now) (c .if2 .left)
 
--- src/channel.rt:37:1
 returns-4 : tie.Need-returns-4
 returns-4 c =
     let o = c .before .before .before .before in

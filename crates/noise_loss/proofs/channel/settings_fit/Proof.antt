@@ -1,39 +1,26 @@
-use mathlib.Core.Path.{_≡_, refl, ap, _∙_, sym}
-use mathlib.Core.List.{List, [], _∷_, _++_}
-use mathlib.Core.Logic.{⊎-elim}
-use Prim.Native.Nat.{ℕ, zero, suc, _+_, _≤_, _<_, _-_, _*_, _/_, _%_}
-use native.Mathlib.Omega.{arith}
-use native.Mathlib.Numerals.{add-one}
-use lib.ListN.{length, getD, set, take, drop, length-set}
-use borrow.Author.Needs.{needs}
-use borrow.Author.Tests.{lt-ltb, le-ltb, lt-leb, le-leb, eq-eqb, ne-eqb}
+use Prim.Native.Nat.{_-_}
+use borrow.Author.Tests.{lt-ltb, le-ltb, lt-leb, le-leb}
 use Rattle.noise_loss.specs.Channel.{settingsFit}
 use Rattle.noise_loss.proofs.channel.settings_fit.Statement.{statement}
 use Rattle.noise_loss.proofs.channel.settings_fit.Tie as tie
-use Rattle.noise_loss.proofs.channel.settings_fit.Reads as reads
-use Rattle.noise_loss.proofs.channel.settings_fit.Lts as lts
 
--- src/channel.rt:18:9
 returns : tie.Need-returns
 unfolding settingsFit
 returns c =
     rw (lt-leb (c .before .args .lm) 3 (c .if1 .taken))
 
--- src/channel.rt:21:9
 returns-2 : tie.Need-returns-2
 unfolding settingsFit
 returns-2 c =
     let a = c .before .before .args in
     rw (le-leb (a .lm) 3 (c .before .if1 .left), le-ltb (a .start) (a .end) (c .if2 .taken))
 
--- src/channel.rt:24:9
 returns-3 : tie.Need-returns-3
 unfolding settingsFit
 returns-3 c =
     let a = c .before .before .before .args in
     rw (le-leb (a .lm) 3 (c .before .before .if1 .left), lt-ltb (a .start) (a .end) (c .before .if2 .left), lt-leb (a .end) 21 (c .if3 .taken))
 
--- src/channel.rt:14:1
 returns-4 : tie.Need-returns-4
 unfolding settingsFit
 returns-4 c =

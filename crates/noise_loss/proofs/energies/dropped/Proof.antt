@@ -1,40 +1,27 @@
-use mathlib.Core.Path.{_≡_, refl, ap, _∙_, sym}
-use mathlib.Core.List.{List, [], _∷_, _++_}
-use mathlib.Core.Logic.{⊎-elim}
-use Prim.Native.Nat.{ℕ, zero, suc, _+_, _≤_, _<_, _-_, _*_, _/_, _%_}
-use native.Mathlib.Omega.{arith}
-use native.Mathlib.Numerals.{add-one}
-use lib.ListN.{length, getD, set, take, drop, length-set}
-use borrow.Author.Needs.{needs}
-use borrow.Author.Tests.{lt-ltb, le-ltb, lt-leb, le-leb, eq-eqb, ne-eqb}
+use Prim.Native.Nat.{_-_, _/_, _%_}
+use borrow.Author.Tests.{lt-ltb, le-ltb, lt-leb, le-leb}
 use Rattle.noise_loss.specs.Energies.{drops}
 use Rattle.noise_loss.proofs.energies.dropped.Statement.{statement}
 use Rattle.noise_loss.proofs.energies.dropped.Tie as tie
-use Rattle.noise_loss.proofs.energies.dropped.Reads as reads
-use Rattle.noise_loss.proofs.energies.dropped.Lts as lts
 
--- src/energies.rt:21:17
 returns : tie.Need-returns
 unfolding drops
 returns c =
     let a = c .before .before .before .args in
     rw (lt-ltb (a .i / 25) (a .channels) (c .before .before .if1 .taken), le-leb (a .start) (a .i % 25) (c .before .if2 .taken), lt-ltb (a .i % 25) (a .end) (c .if3 .taken))
 
--- src/energies.rt:14:1
 returns-2 : tie.Need-returns-2
 unfolding drops
 returns-2 c =
     let a = c .before .before .before .args in
     rw (lt-ltb (a .i / 25) (a .channels) (c .before .before .if1 .taken), le-leb (a .start) (a .i % 25) (c .before .if2 .taken), le-ltb (a .i % 25) (a .end) (c .if3 .left))
 
--- src/energies.rt:14:1
 returns-3 : tie.Need-returns-3
 unfolding drops
 returns-3 c =
     let a = c .before .before .args in
     rw (lt-ltb (a .i / 25) (a .channels) (c .before .if1 .taken), lt-leb (a .start) (a .i % 25) (c .if2 .left))
 
--- src/energies.rt:14:1
 returns-4 : tie.Need-returns-4
 unfolding drops
 returns-4 c =

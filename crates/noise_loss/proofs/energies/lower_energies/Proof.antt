@@ -1,22 +1,14 @@
-use mathlib.Core.Path.{_≡_, refl, ap, _∙_, sym}
-use mathlib.Core.List.{List, [], _∷_, _++_}
-use mathlib.Core.Logic.{⊎-elim}
-use Prim.Native.Nat.{ℕ, zero, suc, _+_, _≤_, _<_, _-_, _*_, _/_, _%_}
+use mathlib.Core.Path.{_≡_}
+use Prim.Native.Nat.{_≤_, _-_}
 use native.Mathlib.Omega.{arith}
-use native.Mathlib.Numerals.{add-one}
-use lib.ListN.{length, getD, set, take, drop, length-set}
+use lib.ListN.{length, length-set}
 use borrow.Author.Needs.{needs}
-use borrow.Author.Tests.{lt-ltb, le-ltb, lt-leb, le-leb, eq-eqb, ne-eqb}
-use lib.Ieee.{nan}
+use borrow.Author.Tests.{le-leb}
 use Rattle.loops.specs.Front.{front, tab, tab-none}
 use Rattle.noise_loss.specs.Energies.{droppedAt, lowerEnergies}
 use Rattle.noise_loss.proofs.Laws.{lower-more, lower-all}
 use Rattle.noise_loss.proofs.energies.lower_energies.Statement.{statement}
 use Rattle.noise_loss.proofs.energies.lower_energies.Tie as tie
-use Rattle.noise_loss.proofs.energies.lower_energies.Reads as reads
-use Rattle.noise_loss.proofs.energies.lower_energies.Lts as lts
-use Rattle.noise_loss.proofs.energies.decay_of.Reads as decay-of-reads
-use Rattle.noise_loss.proofs.energies.dropped.Reads as dropped-reads
 
 abbrev Inv-loop : tie.InvT-loop
 Inv-loop channels start end count by e₀ i₀ e i =
@@ -26,57 +18,45 @@ abbrev μ-loop : tie.MeasureT-loop
 μ-loop channels start end count by e₀ i₀ e i =
     50 - i
 
--- src/energies.rt:39:9
 returns : tie.Need-returns Inv-loop μ-loop
 unfolding lowerEnergies
 returns c =
     rw (le-leb 5 (c .before .args .count) (c .if1 .taken))
 
--- src/energies.rt:41:9
 decay-of-requires : tie.Need-decay-of-requires Inv-loop μ-loop
 decay-of-requires c κs = search needs
 
--- src/energies.rt:43:5
 loop-holds : tie.Need-loop-holds Inv-loop μ-loop
 loop-holds c =
     (search needs, search needs, search needs, tab-none _ _)
 
--- src/energies.rt:44:24
 mul-dropped : tie.Need-mul-dropped Inv-loop μ-loop
 mul-dropped c = search needs
 
--- src/energies.rt:44:24
 array-read-dropped : tie.Need-array-read-dropped Inv-loop μ-loop
 array-read-dropped c = search needs
 
--- src/energies.rt:44:16
 dropped-requires : tie.Need-dropped-requires Inv-loop μ-loop
 dropped-requires c κs = search needs
 
--- src/energies.rt:44:9
 mul-e : tie.Need-mul-e Inv-loop μ-loop
 mul-e c = search needs
 
--- src/energies.rt:44:9
 array-write-e : tie.Need-array-write-e Inv-loop μ-loop
 array-write-e c = search needs
 
--- src/energies.rt:43:9
 add-i : tie.Need-add-i Inv-loop μ-loop
 add-i c = search needs
 
--- src/energies.rt:43:5
 loop-less : tie.Need-loop-less Inv-loop μ-loop
 loop-less c = search needs
 
--- src/energies.rt:43:5
 loop-again : tie.Need-loop-again Inv-loop μ-loop
 loop-again c =
     let h = c .before .before .loop in
     let o = c .before .before .before in
     (search needs, simp length-set (search needs), search needs, lower-more _ _ _ _ _ _ _ (h .inv .3) _ _ (o .decay-of .ensures) (omega arith) (c .dropped .ensures))
 
--- src/energies.rt:29:1
 returns-2 : tie.Need-returns-2 Inv-loop μ-loop
 returns-2 c =
     let h = c .before .loop in

@@ -1,19 +1,15 @@
-use mathlib.Core.Path.{_≡_, refl, ap, _∙_, sym}
-use mathlib.Core.List.{List, [], _∷_, _++_}
-use mathlib.Core.Logic.{⊎-elim}
-use Prim.Native.Nat.{ℕ, zero, suc, _+_, _≤_, _<_, _-_, _*_, _/_, _%_}
+use mathlib.Core.Path.{_≡_, ap, _∙_}
+use mathlib.Core.List.{_++_}
+use Prim.Native.Nat.{_+_, _≤_, _-_}
 use native.Mathlib.Omega.{arith}
-use native.Mathlib.Numerals.{add-one}
-use lib.ListN.{length, getD, set, take, drop, length-set}
+use lib.ListN.{length, take, drop, length-set}
 use borrow.Author.Needs.{needs}
-use lib.Ieee.{Float, nan, binary32, add}
+use lib.Ieee.{nan}
 use lib.Seq.{slice}
 use Rattle.loops.specs.Front.{front, tab, tab-none, tab-more}
 use Rattle.noise_loss.proofs.Laws.{sumAt, sum-at, copy-none, copy-more, copy-all}
 use Rattle.noise_loss.proofs.history.lay.Statement.{statement}
 use Rattle.noise_loss.proofs.history.lay.Tie as tie
-use Rattle.noise_loss.proofs.history.lay.Reads as reads
-use Rattle.noise_loss.proofs.history.lay.Lts as lts
 
 abbrev Inv-loop : tie.InvT-loop
 Inv-loop tail₀ block n j₀ tail j =
@@ -31,48 +27,37 @@ abbrev μ-loop2 : tie.MeasureT-loop2
 μ-loop2 tail₀ block n size j₀ tail j =
     size - j
 
--- src/history.rt:13:5
 loop-holds : tie.Need-loop-holds Inv-loop μ-loop Inv-loop2 μ-loop2
 loop-holds c =
     (search needs, search needs, tab-none _ _)
 
--- src/history.rt:14:19
 mul-tail : tie.Need-mul-tail Inv-loop μ-loop Inv-loop2 μ-loop2
 mul-tail c = search needs
 
--- src/history.rt:14:19
 shared-slice-read-tail : tie.Need-shared-slice-read-tail Inv-loop μ-loop Inv-loop2 μ-loop2
 shared-slice-read-tail c = search needs
 
--- src/history.rt:14:35
 add-tail : tie.Need-add-tail Inv-loop μ-loop Inv-loop2 μ-loop2
 add-tail c = search needs
 
--- src/history.rt:14:30
 mul-tail-2 : tie.Need-mul-tail-2 Inv-loop μ-loop Inv-loop2 μ-loop2
 mul-tail-2 c = search needs
 
--- src/history.rt:14:30
 slice-read-tail : tie.Need-slice-read-tail Inv-loop μ-loop Inv-loop2 μ-loop2
 slice-read-tail c = search needs
 
--- src/history.rt:14:9
 mul-tail-3 : tie.Need-mul-tail-3 Inv-loop μ-loop Inv-loop2 μ-loop2
 mul-tail-3 c = search needs
 
--- src/history.rt:14:9
 slice-write-tail : tie.Need-slice-write-tail Inv-loop μ-loop Inv-loop2 μ-loop2
 slice-write-tail c = search needs
 
--- src/history.rt:13:9
 add-j : tie.Need-add-j Inv-loop μ-loop Inv-loop2 μ-loop2
 add-j c = search needs
 
--- src/history.rt:13:5
 loop-less : tie.Need-loop-less Inv-loop μ-loop Inv-loop2 μ-loop2
 loop-less c = search needs
 
--- src/history.rt:13:5
 loop-again : tie.Need-loop-again Inv-loop μ-loop Inv-loop2 μ-loop2
 loop-again c =
     let h = c .before .before .before .loop in
@@ -83,36 +68,28 @@ loop-again c =
           (sum-at (a .n) (h .j) (a .block .now) (a .tail .now) (h .tail) (h .inv .2)) (omega arith),
     )
 
--- src/history.rt:17:5
 loop2-holds : tie.Need-loop2-holds Inv-loop μ-loop Inv-loop2 μ-loop2
 loop2-holds c =
     (search needs, search needs, search needs, copy-none (c .before .before .args .block .now) (c .before .loop .tail))
 
--- src/history.rt:18:19
 mul-tail-4 : tie.Need-mul-tail-4 Inv-loop μ-loop Inv-loop2 μ-loop2
 mul-tail-4 c = search needs
 
--- src/history.rt:18:19
 shared-slice-read-tail-2 : tie.Need-shared-slice-read-tail-2 Inv-loop μ-loop Inv-loop2 μ-loop2
 shared-slice-read-tail-2 c = search needs
 
--- src/history.rt:18:9
 mul-tail-5 : tie.Need-mul-tail-5 Inv-loop μ-loop Inv-loop2 μ-loop2
 mul-tail-5 c = search needs
 
--- src/history.rt:18:9
 slice-write-tail-2 : tie.Need-slice-write-tail-2 Inv-loop μ-loop Inv-loop2 μ-loop2
 slice-write-tail-2 c = search needs
 
--- src/history.rt:17:9
 add-j-2 : tie.Need-add-j-2 Inv-loop μ-loop Inv-loop2 μ-loop2
 add-j-2 c = search needs
 
--- src/history.rt:17:5
 loop2-less : tie.Need-loop2-less Inv-loop μ-loop Inv-loop2 μ-loop2
 loop2-less c = search needs
 
--- src/history.rt:17:5
 loop2-again : tie.Need-loop2-again Inv-loop μ-loop Inv-loop2 μ-loop2
 loop2-again c =
     let h = c .before .before .loop2 in
@@ -120,11 +97,9 @@ loop2-again c =
     let a = c .before .before .before .before .before .args in
     (search needs, search needs, simp length-set (search needs), copy-more (a .block .now) t (h .tail) (h .j) (h .inv .3) (omega arith) (omega arith) (omega arith))
 
--- src/history.rt:9:1
 same-length : tie.Need-same-length Inv-loop μ-loop Inv-loop2 μ-loop2
 same-length c = search needs
 
--- src/history.rt:9:1
 returns : tie.Need-returns Inv-loop μ-loop Inv-loop2 μ-loop2
 returns c =
     let h = c .before .loop2 in

@@ -1,34 +1,21 @@
-use mathlib.Core.Path.{_≡_, refl, ap, _∙_, sym}
-use mathlib.Core.List.{List, [], _∷_, _++_}
-use mathlib.Core.Logic.{⊎-elim}
-use Prim.Native.Nat.{ℕ, zero, suc, _+_, _≤_, _<_, _-_, _*_, _/_, _%_}
-use native.Mathlib.Omega.{arith}
-use native.Mathlib.Numerals.{add-one}
-use lib.ListN.{length, getD, set, take, drop, length-set}
+use mathlib.Core.Path.{ap, _∙_}
+use Prim.Native.Nat.{_-_}
 use borrow.Author.Needs.{needs}
 use lib.Ieee.{binary32, ofBits}
 use Rattle.band_quant.specs.Renormalise.{renormaliseVector}
 use Rattle.noise_loss.specs.Shape.{bandNoise}
 use Rattle.noise_loss.proofs.shape.band_noise.Statement.{statement}
 use Rattle.noise_loss.proofs.shape.band_noise.Tie as tie
-use Rattle.noise_loss.proofs.shape.band_noise.Reads as reads
-use Rattle.noise_loss.proofs.shape.band_noise.Lts as lts
-use Rattle.band_quant.proofs.noise_fill.Reads as noise-fill-reads
-use Rattle.band_quant.proofs.renormalise_vector.Reads as renormalise-vector-reads
 
--- src/shape.rt:14:9
 noise-fill-requires : tie.Need-noise-fill-requires
 noise-fill-requires c κs = search needs
 
--- src/shape.rt:15:5
 renormalise-vector-requires : tie.Need-renormalise-vector-requires
 renormalise-vector-requires c κs = search needs
 
--- src/shape.rt:11:1
 same-length : tie.Need-same-length
 same-length c = search needs
 
--- src/shape.rt:11:1
 returns : tie.Need-returns
 unfolding bandNoise
 returns c =

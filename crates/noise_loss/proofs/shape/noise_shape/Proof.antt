@@ -1,21 +1,14 @@
-use mathlib.Core.Path.{_≡_, refl, ap, ap₂, _∙_, sym}
-use mathlib.Core.List.{List, [], _∷_, _++_}
-use mathlib.Core.Logic.{⊎-elim}
-use Prim.Native.Nat.{ℕ, zero, suc, _+_, _≤_, _<_, _-_, _*_, _/_, _%_}
+use mathlib.Core.Path.{_≡_, ap, ap₂, _∙_, sym}
+use Prim.Native.Nat.{_+_, _≤_, _-_, _*_}
 use native.Mathlib.Omega.{arith}
-use native.Mathlib.Numerals.{add-one}
-use lib.ListN.{length, getD, set, take, drop, length-set}
+use lib.ListN.{length}
 use borrow.Author.Needs.{needs}
-use Rattle.noise_loss.specs.Shape.{lo, width, band-in, Shape, noiseTurn, noiseShape, bandNoise}
-use Rattle.loops.specs.Fold.{foldRange, range-none, range-end}
+use Rattle.noise_loss.specs.Shape.{lo, band-in, Shape, noiseTurn, noiseShape}
+use Rattle.loops.specs.Fold.{foldRange, range-none}
 use Rattle.noise_loss.proofs.Laws.{noise-more}
 use borrow.Rule.Slice.PartMut.{midOf, mid-len, same-len-mid}
 use Rattle.noise_loss.proofs.shape.noise_shape.Statement.{statement}
 use Rattle.noise_loss.proofs.shape.noise_shape.Tie as tie
-use Rattle.noise_loss.proofs.shape.noise_shape.Reads as reads
-use Rattle.noise_loss.proofs.shape.noise_shape.Lts as lts
-use Rattle.custom_mode.proofs.standard.band_edge.Reads as band-edge-reads
-use Rattle.noise_loss.proofs.shape.band_noise.Reads as band-noise-reads
 
 abbrev Inv-loop : tie.InvT-loop
 Inv-loop bins₀ m start seed s₀ i₀ bins s i =
@@ -37,16 +30,13 @@ ends c =
     let v = band-in m i (omega arith) in
     (omega arith, omega arith)
 
--- src/shape.rt:25:5
 loop-holds : tie.Need-loop-holds Inv-loop μ-loop
 loop-holds c =
     (search needs, search needs, search needs, range-none _ _ _ _ (omega arith))
 
--- src/shape.rt:26:21
 band-edge-requires : tie.Need-band-edge-requires Inv-loop μ-loop
 band-edge-requires c κs = search needs
 
--- src/shape.rt:26:17
 mul-a : tie.Need-mul-a Inv-loop μ-loop
 mul-a c =
     let i = c .before .before .loop .i in
@@ -55,52 +45,41 @@ mul-a c =
     let v = band-in m i (omega arith) in
     search needs
 
--- src/shape.rt:27:31
 add-band-edge : tie.Need-add-band-edge Inv-loop μ-loop
 add-band-edge c = search needs
 
--- src/shape.rt:27:21
 band-edge-requires-2 : tie.Need-band-edge-requires-2 Inv-loop μ-loop
 band-edge-requires-2 c κs = search needs
 
--- src/shape.rt:27:17
 mul-e : tie.Need-mul-e Inv-loop μ-loop
 mul-e c =
     let v = ends c in search needs
 
--- src/shape.rt:28:24
 mul-band-noise : tie.Need-mul-band-noise Inv-loop μ-loop
 mul-band-noise c =
     let v = ends c in search needs
 
--- src/shape.rt:28:24
 sub-band-noise : tie.Need-sub-band-noise Inv-loop μ-loop
 sub-band-noise c =
     let v = ends c in search needs
 
--- src/shape.rt:28:24
 part-band-noise-start : tie.Need-part-band-noise-start Inv-loop μ-loop
 part-band-noise-start c =
     let v = ends c in search needs
 
--- src/shape.rt:28:24
 part-band-noise-end : tie.Need-part-band-noise-end Inv-loop μ-loop
 part-band-noise-end c =
     let v = ends c in search needs
 
--- src/shape.rt:28:9
 band-noise-requires : tie.Need-band-noise-requires Inv-loop μ-loop
 band-noise-requires c κs = search needs
 
--- src/shape.rt:25:9
 add-i : tie.Need-add-i Inv-loop μ-loop
 add-i c = search needs
 
--- src/shape.rt:25:5
 loop-less : tie.Need-loop-less Inv-loop μ-loop
 loop-less c = search needs
 
--- src/shape.rt:25:5
 loop-again : tie.Need-loop-again Inv-loop μ-loop
 loop-again c =
     let n = c .before .before .band-noise in
@@ -122,11 +101,9 @@ loop-again c =
           (h .inv .3) (h .inv .0) es (ap₂ _-_ ee es) z (n .ensures .1) (n .ensures .0),
     )
 
--- src/shape.rt:20:1
 same-length : tie.Need-same-length Inv-loop μ-loop
 same-length c = search needs
 
--- src/shape.rt:20:1
 returns : tie.Need-returns Inv-loop μ-loop
 unfolding noiseShape
 returns c =

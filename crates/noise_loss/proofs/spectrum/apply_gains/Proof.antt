@@ -1,14 +1,11 @@
-use mathlib.Core.Path.{_≡_, refl, ap, ap₂, _∙_, sym}
-use mathlib.Core.List.{List, [], _∷_, _++_}
-use mathlib.Core.Logic.{⊎-elim}
-use Prim.Native.Nat.{ℕ, zero, suc, _+_, _≤_, _<_, _-_, _*_, _/_, _%_}
+use mathlib.Core.Path.{_≡_, ap, ap₂, _∙_, sym}
+use Prim.Native.Nat.{_+_, _≤_, _-_, _*_}
 use native.Mathlib.Omega.{arith}
-use native.Mathlib.Numerals.{add-one}
-use lib.ListN.{length, getD, set, take, drop, length-set}
+use lib.ListN.{length, getD}
 use borrow.Author.Needs.{needs}
-use Rattle.noise_loss.specs.Shape.{lo, width, band-in}
+use Rattle.noise_loss.specs.Shape.{lo, band-in}
 use Rattle.noise_loss.specs.Spectrum.{gainOf, gainTurn}
-use Rattle.loops.specs.Fold.{foldRange, range-none, range-end}
+use Rattle.loops.specs.Fold.{foldRange, range-none}
 use Rattle.noise_loss.proofs.Laws.{gains-more}
 use lib.Ieee.{nan, binary32, ofBits, add}
 use Rattle.float_bits.specs.Extremes.{minOf}
@@ -16,12 +13,6 @@ use Rattle.custom_mode.specs.Gain.{bandGain}
 use borrow.Rule.Slice.PartMut.{midOf, mid-len, same-len-mid}
 use Rattle.noise_loss.proofs.spectrum.apply_gains.Statement.{statement}
 use Rattle.noise_loss.proofs.spectrum.apply_gains.Tie as tie
-use Rattle.noise_loss.proofs.spectrum.apply_gains.Reads as reads
-use Rattle.noise_loss.proofs.spectrum.apply_gains.Lts as lts
-use Rattle.custom_mode.proofs.gain.band_gain.Reads as band-gain-reads
-use Rattle.custom_mode.proofs.standard.band_edge.Reads as band-edge-reads
-use Rattle.custom_mode.proofs.standard.mean_energy.Reads as mean-energy-reads
-use Rattle.noise_loss.proofs.spectrum.scale.Reads as scale-reads
 
 abbrev Inv-loop : tie.InvT-loop
 Inv-loop bins₀ m start end energies i₀ bins i =
@@ -42,32 +33,25 @@ ends c =
     let v = band-in m i (omega arith) in
     (omega arith, omega arith)
 
--- src/spectrum.rt:36:5
 loop-holds : tie.Need-loop-holds Inv-loop μ-loop
 loop-holds c =
     (search needs, search needs, search needs, sym (range-none _ _ _ _ (omega arith)))
 
--- src/spectrum.rt:37:27
 mul-band-gain : tie.Need-mul-band-gain Inv-loop μ-loop
 mul-band-gain c = search needs
 
--- src/spectrum.rt:37:27
 shared-slice-read-band-gain : tie.Need-shared-slice-read-band-gain Inv-loop μ-loop
 shared-slice-read-band-gain c = search needs
 
--- src/spectrum.rt:37:40
 mean-energy-requires : tie.Need-mean-energy-requires Inv-loop μ-loop
 mean-energy-requires c κs = search needs
 
--- src/spectrum.rt:37:13
 band-gain-requires : tie.Need-band-gain-requires Inv-loop μ-loop
 band-gain-requires c κs = search needs
 
--- src/spectrum.rt:38:21
 band-edge-requires : tie.Need-band-edge-requires Inv-loop μ-loop
 band-edge-requires c κs = search needs
 
--- src/spectrum.rt:38:17
 mul-a : tie.Need-mul-a Inv-loop μ-loop
 mul-a c =
     let n = c .before .before .before .before in
@@ -77,52 +61,41 @@ mul-a c =
     let v = band-in m i (omega arith) in
     search needs
 
--- src/spectrum.rt:39:31
 add-band-edge : tie.Need-add-band-edge Inv-loop μ-loop
 add-band-edge c = search needs
 
--- src/spectrum.rt:39:21
 band-edge-requires-2 : tie.Need-band-edge-requires-2 Inv-loop μ-loop
 band-edge-requires-2 c κs = search needs
 
--- src/spectrum.rt:39:17
 mul-e : tie.Need-mul-e Inv-loop μ-loop
 mul-e c =
     let v = ends c in search needs
 
--- src/spectrum.rt:40:15
 mul-scale : tie.Need-mul-scale Inv-loop μ-loop
 mul-scale c =
     let v = ends c in search needs
 
--- src/spectrum.rt:40:15
 sub-scale : tie.Need-sub-scale Inv-loop μ-loop
 sub-scale c =
     let v = ends c in search needs
 
--- src/spectrum.rt:40:15
 part-scale-start : tie.Need-part-scale-start Inv-loop μ-loop
 part-scale-start c =
     let v = ends c in search needs
 
--- src/spectrum.rt:40:15
 part-scale-end : tie.Need-part-scale-end Inv-loop μ-loop
 part-scale-end c =
     let v = ends c in search needs
 
--- src/spectrum.rt:40:9
 scale-requires : tie.Need-scale-requires Inv-loop μ-loop
 scale-requires c κs = search needs
 
--- src/spectrum.rt:36:9
 add-i : tie.Need-add-i Inv-loop μ-loop
 add-i c = search needs
 
--- src/spectrum.rt:36:5
 loop-less : tie.Need-loop-less Inv-loop μ-loop
 loop-less c = search needs
 
--- src/spectrum.rt:36:5
 loop-again : tie.Need-loop-again Inv-loop μ-loop
 unfolding gainOf
 loop-again c =
@@ -148,11 +121,9 @@ loop-again c =
           (h .inv .3) (h .inv .0) es (ap₂ _-_ ee es) g (n .ensures),
     )
 
--- src/spectrum.rt:32:1
 same-length : tie.Need-same-length Inv-loop μ-loop
 same-length c = search needs
 
--- src/spectrum.rt:32:1
 returns : tie.Need-returns Inv-loop μ-loop
 returns c =
     let h = c .before .loop in

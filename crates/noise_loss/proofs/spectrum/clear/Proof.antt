@@ -1,18 +1,13 @@
-use mathlib.Core.Path.{_≡_, refl, ap, _∙_, sym}
-use mathlib.Core.List.{List, [], _∷_, _++_}
-use mathlib.Core.Logic.{⊎-elim}
-use Prim.Native.Nat.{ℕ, zero, suc, _+_, _≤_, _<_, _-_, _*_, _/_, _%_}
+use mathlib.Core.Path.{_≡_}
+use Prim.Native.Nat.{_≤_, _-_}
 use native.Mathlib.Omega.{arith}
-use native.Mathlib.Numerals.{add-one}
-use lib.ListN.{length, getD, set, take, drop, length-set}
+use lib.ListN.{length, length-set}
 use borrow.Author.Needs.{needs}
 use lib.ListN.{replicate}
 use Rattle.loops.specs.Front.{front, fill-none, fill-more, fill-all}
 use Rattle.noise_loss.specs.Spectrum.{zero32}
 use Rattle.noise_loss.proofs.spectrum.clear.Statement.{statement}
 use Rattle.noise_loss.proofs.spectrum.clear.Tie as tie
-use Rattle.noise_loss.proofs.spectrum.clear.Reads as reads
-use Rattle.noise_loss.proofs.spectrum.clear.Lts as lts
 
 abbrev Inv-loop : tie.InvT-loop
 Inv-loop part₀ n i₀ part i =
@@ -22,39 +17,31 @@ abbrev μ-loop : tie.MeasureT-loop
 μ-loop part₀ n i₀ part i =
     n - i
 
--- src/spectrum.rt:26:5
 loop-holds : tie.Need-loop-holds Inv-loop μ-loop
 loop-holds c =
     (search needs, search needs, fill-none zero32 (c .args .part .now))
 
--- src/spectrum.rt:27:9
 mul-part : tie.Need-mul-part Inv-loop μ-loop
 mul-part c = search needs
 
--- src/spectrum.rt:27:9
 slice-write-part : tie.Need-slice-write-part Inv-loop μ-loop
 slice-write-part c = search needs
 
--- src/spectrum.rt:26:9
 add-i : tie.Need-add-i Inv-loop μ-loop
 add-i c = search needs
 
--- src/spectrum.rt:26:5
 loop-less : tie.Need-loop-less Inv-loop μ-loop
 loop-less c = search needs
 
--- src/spectrum.rt:26:5
 loop-again : tie.Need-loop-again Inv-loop μ-loop
 loop-again c =
     let h = c .before .loop in
     let a = c .before .before .args in
     (search needs, simp length-set (search needs), fill-more zero32 (a .part .now) (h .part) (h .i) (h .inv .2) (omega arith))
 
--- src/spectrum.rt:22:1
 same-length : tie.Need-same-length Inv-loop μ-loop
 same-length c = search needs
 
--- src/spectrum.rt:22:1
 returns : tie.Need-returns Inv-loop μ-loop
 returns c =
     let h = c .before .loop in

@@ -1,8 +1,7 @@
-use mathlib.Core.Path.{_≡_, refl, ap, ap₂, _∙_, sym}
-use mathlib.Core.List.{List, [], _∷_, _++_}
-use Prim.Native.Nat.{ℕ, zero, suc, _+_, _≤_, _<_, _-_, _*_, _/_, _%_, _^_}
+use mathlib.Core.Path.{_≡_, ap, _∙_}
+use Prim.Native.Nat.{_≤_, _-_, _*_}
 use native.Mathlib.Omega.{arith}
-use lib.ListN.{length, getD, set, take, drop, length-set}
+use lib.ListN.{length}
 use borrow.Author.Needs.{needs}
 use lib.ListN.{length-replicate}
 use Rattle.noise_loss.specs.Shape.{noiseShape}
@@ -10,12 +9,6 @@ use Rattle.noise_loss.specs.Spectrum.{zero32}
 use Rattle.noise_loss.proofs.Calls.{spectrum-is}
 use Rattle.noise_loss.proofs.spectrum.fill_spectrum.Statement.{statement}
 use Rattle.noise_loss.proofs.spectrum.fill_spectrum.Tie as tie
-use Rattle.noise_loss.proofs.spectrum.fill_spectrum.Reads as reads
-use Rattle.noise_loss.proofs.spectrum.fill_spectrum.Lts as lts
-use Rattle.noise_loss.proofs.shape.noise_shape.Reads as noise-shape-reads
-use Rattle.noise_loss.proofs.spectrum.apply_gains.Reads as apply-gains-reads
-use Rattle.noise_loss.proofs.spectrum.bound_of.Reads as bound-of-reads
-use Rattle.noise_loss.proofs.spectrum.clear.Reads as clear-reads
 
 whole : (c : tie.Start) → length (c .args .bins .now) ≡ 120 * c .args .m
 whole c = ap length (c .pre .4) ∙ length-replicate (120 * c .args .m) zero32
@@ -30,14 +23,12 @@ inside c =
     let r : c .bound-of .result ≤ o .args .m * 100 = c .bound-of .ensures .1 in
     omega arith
 
--- src/spectrum.rt:72:9
 noise-shape-requires : tie.Need-noise-shape-requires
 noise-shape-requires c κs =
     let o = c .before .before .before in
     let l = whole o in
     (o .pre .0, omega arith, omega arith)
 
--- src/spectrum.rt:73:5
 apply-gains-requires : tie.Need-apply-gains-requires
 apply-gains-requires c κs =
     let o = c .before .before .before .before .before .before .before in
@@ -45,37 +36,29 @@ apply-gains-requires c κs =
     let k : length (c .before .before .before .noise-shape .last .0) ≡ length (o .args .bins .now) = c .before .before .before .noise-shape .kept .0 in
     (o .pre .0, o .pre .1, o .pre .2, omega arith, o .pre .5)
 
--- src/spectrum.rt:74:9
 bound-of-requires : tie.Need-bound-of-requires
 bound-of-requires c κs = search needs
 
--- src/spectrum.rt:75:11
 mul-clear : tie.Need-mul-clear
 mul-clear c = search needs
 
--- src/spectrum.rt:75:11
 sub-clear : tie.Need-sub-clear
 sub-clear c =
     inside c
 
--- src/spectrum.rt:75:11
 part-clear-start : tie.Need-part-clear-start
 part-clear-start c =
     let e = inside c in search needs
 
--- src/spectrum.rt:75:11
 part-clear-end : tie.Need-part-clear-end
 part-clear-end c = search needs
 
--- src/spectrum.rt:75:5
 clear-requires : tie.Need-clear-requires
 clear-requires c κs = search needs
 
--- src/spectrum.rt:60:1
 same-length : tie.Need-same-length
 same-length c = search needs
 
--- src/spectrum.rt:60:1
 returns : tie.Need-returns
 returns c =
     let o = c .before .before .before .before .before .before .before .before .before .before .before .before .before .before .before in

@@ -1,10 +1,7 @@
-use mathlib.Core.Path.{_≡_, refl, ap, _∙_, sym}
-use mathlib.Core.List.{List, [], _∷_, _++_}
-use mathlib.Core.Logic.{⊎-elim}
-use Prim.Native.Nat.{ℕ, zero, suc, _+_, _≤_, _<_, _-_, _*_, _/_, _%_}
+use mathlib.Core.Path.{_≡_}
+use Prim.Native.Nat.{_≤_, _-_}
 use native.Mathlib.Omega.{arith}
-use native.Mathlib.Numerals.{add-one}
-use lib.ListN.{length, getD, set, take, drop, length-set}
+use lib.ListN.{length, take, length-set}
 use borrow.Author.Needs.{needs}
 use mathlib.Core.List.{map}
 use lib.Ieee.{nan}
@@ -12,8 +9,6 @@ use Rattle.loops.specs.Front.{front, map-none, map-more, map-all}
 use Rattle.noise_loss.specs.Spectrum.{times}
 use Rattle.noise_loss.proofs.spectrum.scale.Statement.{statement}
 use Rattle.noise_loss.proofs.spectrum.scale.Tie as tie
-use Rattle.noise_loss.proofs.spectrum.scale.Reads as reads
-use Rattle.noise_loss.proofs.spectrum.scale.Lts as lts
 
 abbrev Inv-loop : tie.InvT-loop
 Inv-loop part₀ g n i₀ part i =
@@ -23,47 +18,37 @@ abbrev μ-loop : tie.MeasureT-loop
 μ-loop part₀ g n i₀ part i =
     n - i
 
--- src/spectrum.rt:17:5
 loop-holds : tie.Need-loop-holds Inv-loop μ-loop
 loop-holds c =
     (search needs, search needs, map-none (times (c .args .g)) (c .args .part .now))
 
--- src/spectrum.rt:18:19
 mul-part : tie.Need-mul-part Inv-loop μ-loop
 mul-part c = search needs
 
--- src/spectrum.rt:18:19
 slice-read-part : tie.Need-slice-read-part Inv-loop μ-loop
 slice-read-part c = search needs
 
--- src/spectrum.rt:18:9
 mul-part-2 : tie.Need-mul-part-2 Inv-loop μ-loop
 mul-part-2 c = search needs
 
--- src/spectrum.rt:18:9
 slice-write-part : tie.Need-slice-write-part Inv-loop μ-loop
 slice-write-part c = search needs
 
--- src/spectrum.rt:17:9
 add-i : tie.Need-add-i Inv-loop μ-loop
 add-i c = search needs
 
--- src/spectrum.rt:17:5
 loop-less : tie.Need-loop-less Inv-loop μ-loop
 loop-less c = search needs
 
--- src/spectrum.rt:17:5
 loop-again : tie.Need-loop-again Inv-loop μ-loop
 loop-again c =
     let h = c .before .before .loop in
     let a = c .before .before .before .args in
     (search needs, simp length-set (search needs), map-more (times (a .g)) nan (a .part .now) (h .part) (h .i) (h .inv .2) (omega arith))
 
--- src/spectrum.rt:13:1
 same-length : tie.Need-same-length Inv-loop μ-loop
 same-length c = search needs
 
--- src/spectrum.rt:13:1
 returns : tie.Need-returns Inv-loop μ-loop
 returns c =
     let h = c .before .loop in
