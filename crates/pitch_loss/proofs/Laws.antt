@@ -1,7 +1,7 @@
 -- Laws of plain variables that the proofs cite.
 use mathlib.Core.Path.{_≡_, refl, ap, _∙_, sym}
 use mathlib.Core.List.{List, _++_, append-nil}
-use Prim.Native.Nat.{ℕ, _+_, _≤_, _<_, _-_, _*_, _^_}
+use Prim.Native.Nat.{ℕ, _+_, _≤_, _<_, _-_, _^_}
 use native.Mathlib.Omega.{arith}
 use lib.ListN.{length, getD, take, drop, length-drop, drop-of-length-le, replicate, take-append-drop}
 use lib.Seq.{getD-drop, getD-append-add, take-at}
@@ -9,7 +9,7 @@ use lib.Dec.{ltb, eqb}
 use lib.Ieee.{Float, binary32, mul, lt, eq, ofBits}
 use mathlib.Core.Bool.{Bool, true, false, cond, not}
 use borrow.Author.Tests.{eqb-false}
-use Rattle.loops.specs.Front.{front, tab, length-tab, tab-same, tab-list}
+use Rattle.loops.specs.Front.{front, tab, tab-same, tab-list}
 use Rattle.pitch_loss.specs.Overlap.{fromEnd, movedBack, rolled}
 use Rattle.pitch_loss.specs.Copy.{stepped}
 use Rattle.pitch_loss.specs.Guard.{scaled, energy, muted, backScale, guardedAt, guarded}

@@ -1,23 +1,22 @@
 -- Of the excitation, only its last two periods are read.
-use mathlib.Core.Path.{_≡_, refl, ap, _∙_, sym}
+use mathlib.Core.Path.{_≡_, refl, ap, _∙_}
 use mathlib.Core.Bool.{Bool, true, false, cond}
 use mathlib.Core.List.{List, _++_}
-use Prim.Native.Nat.{ℕ, zero, suc, _+_, _*_, _-_, _≤_, _<_}
+use Prim.Native.Nat.{ℕ, zero, suc, _+_, _*_, _-_, _≤_}
 use native.Mathlib.Omega.{arith}
 use lib.Dec.{eqb, ltb}
 use lib.ListN.{length, getD, take, drop}
 use lib.Seq.{length-take-le, getD-append-add, getD-drop}
 use lib.Ieee.{Float, nan, binary32, mul}
-use borrow.Author.Tests.{eqb-true, ltb-true, ltb-false}
+use borrow.Author.Tests.{eqb-true}
 use Rattle.loops.specs.Fold.{foldTo}
 use Rattle.loops.specs.Front.{tab-same}
 use Rattle.loops.specs.Sum.{sum-same}
 use Rattle.plc.specs.Fir.{celtFir, celtFirFrom}
-use Rattle.pitch_loss.specs.Decay.{decayPeriod, squareAt, periodEnergy, decayOf, pitchDecay}
+use Rattle.pitch_loss.specs.Decay.{decayPeriod, periodEnergy, decayOf, pitchDecay}
 use Rattle.pitch_loss.specs.Copy.{stepped, positionAt, decayAt, periodicCopy}
 use Rattle.pitch_loss.specs.Guard.{scaled, fade}
 use Rattle.pitch_loss.specs.Extrapolate.{recent, excitation, repeated}
-use Rattle.pitch_loss.proofs.Laws.{stepped-lt}
 
 -- the two lists have the same from a on
 abbrev Agree : ℕ → List Float → List Float → Type 0

@@ -1,6 +1,6 @@
 -- What the steps make together, over plain variables.
-use mathlib.Core.Path.{_≡_, refl, ap, _∙_, sym}
-use mathlib.Core.Bool.{Bool, true, cond, _&&_}
+use mathlib.Core.Path.{_≡_, ap, _∙_, sym}
+use mathlib.Core.Bool.{Bool, true, cond}
 use mathlib.Core.List.{List, [], _++_, append-nil}
 use Prim.Native.Nat.{ℕ, _+_, _-_, _≤_}
 use native.Mathlib.Omega.{arith}
@@ -21,7 +21,7 @@ use Rattle.pitch_loss.specs.Fit.{pitchFit}
 use Rattle.pitch_loss.specs.Copy.{copiedEnergy}
 use Rattle.pitch_loss.specs.Guard.{guarded}
 use Rattle.pitch_loss.specs.Extrapolate.{recent, excitation, repeated, extrapolated, length-recent, length-repeated}
-use Rattle.pitch_loss.specs.Overlap.{rolled, folded, length-rolled, length-folded}
+use Rattle.pitch_loss.specs.Overlap.{rolled, folded, length-rolled}
 use Rattle.pitch_loss.specs.Prefilter.{preFiltered}
 use Rattle.pitch_loss.specs.Loss.{frameSize, laid, concealedTail, pitchLoss}
 

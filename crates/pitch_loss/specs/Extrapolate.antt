@@ -1,5 +1,5 @@
 -- The newest 1,024 samples continued: excitation, repeated cycle, fade, all-pole filter, guard.
-use mathlib.Core.Path.{_≡_, ap, _∙_}
+use mathlib.Core.Path.{_≡_, _∙_}
 use Prim.Native.Nat.{ℕ, _-_}
 use mathlib.Core.Bool.{Bool}
 use mathlib.Core.List.{List}

@@ -1,6 +1,5 @@
 -- The fade, the synthesis's energy and the guard on it.
-use mathlib.Core.Path.{_≡_, refl, ap, _∙_, sym}
-use Prim.Native.Nat.{ℕ, _+_}
+use mathlib.Core.Path.{_≡_, refl}
 use mathlib.Core.Bool.{Bool, true, false, cond, not}
 use mathlib.Core.List.{List, map}
 use lib.ListN.{length, replicate, length-map, length-replicate}

@@ -1,5 +1,4 @@
 -- A pitch loss of both channels of a history, channel 0 first.
-use mathlib.Core.Path.{_≡_}
 use Prim.Native.Nat.{ℕ}
 use mathlib.Core.Bool.{Bool, _&&_}
 use mathlib.Core.List.{List, _++_}

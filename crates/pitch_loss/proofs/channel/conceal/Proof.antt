@@ -1,46 +1,31 @@
-use mathlib.Core.Path.{_≡_, refl, ap, _∙_, sym}
-use mathlib.Core.List.{List, [], _∷_, _++_}
-use mathlib.Core.Logic.{⊎-elim}
-use Prim.Native.Nat.{ℕ, zero, suc, _+_, _≤_, _<_, _-_}
-use native.Mathlib.Omega.{arith}
-use native.Mathlib.Numerals.{add-one}
-use lib.ListN.{length, getD, set, take, drop, length-set}
+use mathlib.Core.Path.{_≡_, ap, _∙_, sym}
+use Prim.Native.Nat.{_+_}
+use lib.ListN.{length, take}
 use borrow.Author.Needs.{needs}
 use lib.Seq.{length-take-le}
 use Rattle.pitch_loss.specs.Extrapolate.{extrapolated}
 use Rattle.pitch_loss.specs.Loss.{laid, concealed-is}
 use Rattle.pitch_loss.proofs.channel.conceal.Statement.{statement}
 use Rattle.pitch_loss.proofs.channel.conceal.Tie as tie
-use Rattle.pitch_loss.proofs.channel.conceal.Reads as reads
-use Rattle.pitch_loss.proofs.channel.conceal.Lts as lts
-use Rattle.pitch_loss.proofs.channel.lay.Reads as lay-reads
-use Rattle.pitch_loss.proofs.extrapolate.extrapolate.Reads as extrapolate-reads
 
--- src/channel.rt:74:40
 slice-reshare-prefix-extrapolate : tie.Need-slice-reshare-prefix-extrapolate
 slice-reshare-prefix-extrapolate c = search needs
 
--- src/channel.rt:74:40
 slice-aggregate-extrapolate : tie.Need-slice-aggregate-extrapolate
 slice-aggregate-extrapolate c = sym (length-take-le 1024 (c .before .before .before .before .args .t .now) (search needs))
 
--- src/channel.rt:74:5
 extrapolate-requires : tie.Need-extrapolate-requires
 extrapolate-requires c κs = (length-take-le 1024 (c .before .before .before .before .args .t .now) (search needs), search needs, search needs, search needs)
 
--- src/channel.rt:75:5
 lay-requires : tie.Need-lay-requires
 lay-requires c κs = search needs
 
--- src/channel.rt:69:1
 same-length : tie.Need-same-length
 same-length c = search needs
 
--- src/channel.rt:69:1
 same-length-2 : tie.Need-same-length-2
 same-length-2 c = search needs
 
--- src/channel.rt:69:1
 returns : tie.Need-returns
 returns c =
     let a = c .before .before .before .before .before .before .before .before .before .before .before .before .args in

@@ -1,36 +1,24 @@
-use mathlib.Core.Path.{_≡_, refl, ap, _∙_, sym}
-use mathlib.Core.List.{List, [], _∷_, _++_}
-use mathlib.Core.Logic.{⊎-elim}
-use Prim.Native.Nat.{ℕ, zero, suc, _+_, _≤_, _<_, _-_}
+use mathlib.Core.Path.{_≡_, refl, sym}
+use mathlib.Core.List.{List, _++_}
+use Prim.Native.Nat.{_-_}
 use native.Mathlib.Omega.{arith}
-use native.Mathlib.Numerals.{add-one}
-use lib.ListN.{length, getD, set, take, drop, length-set}
+use lib.ListN.{length, take, drop}
 use borrow.Author.Needs.{needs}
 use lib.Ieee.{Float}
 use lib.Seq.{length-take-le}
 use Rattle.pitch_loss.proofs.Whole.{lay-is}
 use Rattle.pitch_loss.proofs.channel.lay.Statement.{statement}
 use Rattle.pitch_loss.proofs.channel.lay.Tie as tie
-use Rattle.pitch_loss.proofs.channel.lay.Reads as reads
-use Rattle.pitch_loss.proofs.channel.lay.Lts as lts
-use Rattle.mdct.proofs.window.window.Reads as window-reads
-use Rattle.pitch_loss.proofs.overlap.fold_tail.Reads as fold-tail-reads
-use Rattle.pitch_loss.proofs.overlap.roll.Reads as roll-reads
-use Rattle.pitch_loss.proofs.prefilter.prefilter.Reads as prefilter-reads
 
--- src/channel.rt:62:26
 slice-relend-prefix-roll : tie.Need-slice-relend-prefix-roll
 slice-relend-prefix-roll c = search needs
 
--- src/channel.rt:62:26
 slice-aggregate-roll : tie.Need-slice-aggregate-roll
 slice-aggregate-roll c = sym (length-take-le 1024 (c .before .before .before .args .t .now) (search needs))
 
--- src/channel.rt:62:42
 slice-aggregate-roll-2 : tie.Need-slice-aggregate-roll-2
 slice-aggregate-roll-2 c = sym (length-take-le (c .before .before .before .before .args .n) (c .before .before .before .before .args .e .now) (search needs))
 
--- src/channel.rt:62:5
 roll-requires : tie.Need-roll-requires
 roll-requires c κs =
     let a = c .before .before .before .before .args in
@@ -38,39 +26,30 @@ roll-requires c κs =
     let q : length (take 1024 (a .t .now)) ≡ 1024 = length-take-le 1024 (a .t .now) (search needs) in
     omega arith
 
--- src/channel.rt:63:13
 window-requires : tie.Need-window-requires
 window-requires c κs = search needs
 
--- src/channel.rt:64:31
 sub-fold-tail : tie.Need-sub-fold-tail
 sub-fold-tail c = search needs
 
--- src/channel.rt:64:31
 part-fold-tail-start : tie.Need-part-fold-tail-start
 part-fold-tail-start c = search needs
 
--- src/channel.rt:64:31
 part-fold-tail-end : tie.Need-part-fold-tail-end
 part-fold-tail-end c = search needs
 
--- src/channel.rt:64:47
 slice-aggregate-fold-tail : tie.Need-slice-aggregate-fold-tail
 slice-aggregate-fold-tail c = search needs
 
--- src/channel.rt:64:5
 fold-tail-requires : tie.Need-fold-tail-requires
 fold-tail-requires c κs = search needs
 
--- src/channel.rt:65:5
 prefilter-requires : tie.Need-prefilter-requires
 prefilter-requires c κs = search needs
 
--- src/channel.rt:57:1
 same-length : tie.Need-same-length
 same-length c = search needs
 
--- src/channel.rt:57:1
 returns : tie.Need-returns
 returns c =
     let a = c .before .before .before .before .before .before .before .before .before .before .before .before .before .before .before .before .before .args in

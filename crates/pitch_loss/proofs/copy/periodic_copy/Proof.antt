@@ -1,25 +1,17 @@
-use mathlib.Core.Path.{_≡_, refl, ap, _∙_, sym}
-use mathlib.Core.List.{List, [], _∷_, _++_}
-use mathlib.Core.Logic.{⊎-elim}
-use Prim.Native.Nat.{ℕ, zero, suc, _+_, _≤_, _<_, _-_}
+use mathlib.Core.Path.{_≡_, ap, _∙_, sym}
+use mathlib.Core.List.{List}
+use Prim.Native.Nat.{ℕ, _≤_, _<_, _-_}
 use native.Mathlib.Omega.{arith}
-use native.Mathlib.Numerals.{add-one}
-use lib.ListN.{length, getD, set, take, drop, length-set}
+use lib.ListN.{length, getD, length-set}
 use borrow.Author.Needs.{needs}
 use lib.Ieee.{Float, nan, binary32, add, mul, ofBits}
-use Rattle.loops.specs.Front.{front, tab, length-tab, tab-none, tab-more, tab-all, tab-list}
-use Rattle.pitch_loss.specs.Copy.{stepped, decayed, positionAt, decayAt, periodicCopy, copiedEnergy}
+use Rattle.loops.specs.Front.{front, tab, tab-none, tab-more, tab-all}
+use Rattle.pitch_loss.specs.Copy.{stepped, positionAt, decayAt, periodicCopy, copiedEnergy, position-none, position-more, decay-none, decay-more}
 use Rattle.pitch_loss.specs.Decay.{squareAt}
 use Rattle.loops.specs.Sum.{sumTo, sum-none, sum-more}
-use Rattle.loops.specs.Fold.{foldTo, fold-none, fold-more}
-use Rattle.pitch_loss.specs.Copy.{position-none, position-more, decay-none, decay-more}
 use Rattle.pitch_loss.proofs.Laws.{stepped-lt}
 use Rattle.pitch_loss.proofs.copy.periodic_copy.Statement.{statement}
 use Rattle.pitch_loss.proofs.copy.periodic_copy.Tie as tie
-use Rattle.pitch_loss.proofs.copy.periodic_copy.Reads as reads
-use Rattle.pitch_loss.proofs.copy.periodic_copy.Lts as lts
-use Rattle.pitch_loss.proofs.copy.next_decay.Reads as next-decay-reads
-use Rattle.pitch_loss.proofs.copy.next_position.Reads as next-position-reads
 
 -- sample i of the copy
 abbrev copied : List Float → ℕ → Float → ℕ → Float
@@ -33,11 +25,9 @@ Inv-loop e₀ exc new lag decay n pos₀ d₀ s1₀ i₀ e pos d s1 i =
 abbrev μ-loop : tie.MeasureT-loop
 μ-loop e₀ exc new lag decay n pos₀ d₀ s1₀ i₀ e pos d s1 i = n - i
 
--- src/copy.rt:30:19
 sub-pos : tie.Need-sub-pos Inv-loop μ-loop
 sub-pos c = search needs
 
--- src/copy.rt:33:5
 loop-holds : tie.Need-loop-holds Inv-loop μ-loop
 loop-holds c =
     let a = c .before .before .before .args in (
@@ -50,47 +40,36 @@ loop-holds c =
       sym (sum-none _ _ _),
     )
 
--- src/copy.rt:34:20
 mul-e : tie.Need-mul-e Inv-loop μ-loop
 mul-e c = search needs
 
--- src/copy.rt:34:20
 shared-slice-read-e : tie.Need-shared-slice-read-e Inv-loop μ-loop
 shared-slice-read-e c = search needs
 
--- src/copy.rt:34:9
 mul-e-2 : tie.Need-mul-e-2 Inv-loop μ-loop
 mul-e-2 c = search needs
 
--- src/copy.rt:34:9
 slice-write-e : tie.Need-slice-write-e Inv-loop μ-loop
 slice-write-e c = search needs
 
--- src/copy.rt:35:19
 mul-tmp : tie.Need-mul-tmp Inv-loop μ-loop
 mul-tmp c = search needs
 
--- src/copy.rt:35:19
 shared-slice-read-tmp : tie.Need-shared-slice-read-tmp Inv-loop μ-loop
 shared-slice-read-tmp c = search needs
 
--- src/copy.rt:37:9
 next-decay-requires : tie.Need-next-decay-requires Inv-loop μ-loop
 next-decay-requires c κs = search needs
 
--- src/copy.rt:38:9
 next-position-requires : tie.Need-next-position-requires Inv-loop μ-loop
 next-position-requires c κs = search needs
 
--- src/copy.rt:33:9
 add-i : tie.Need-add-i Inv-loop μ-loop
 add-i c = search needs
 
--- src/copy.rt:33:5
 loop-less : tie.Need-loop-less Inv-loop μ-loop
 loop-less c = search needs
 
--- src/copy.rt:33:5
 loop-again : tie.Need-loop-again Inv-loop μ-loop
 loop-again c =
     let h = c .before .before .before .before .before .loop in
@@ -112,11 +91,9 @@ loop-again c =
       ap (λ z. add binary32 (h .s1) (squareAt (a .new .now) z)) p ∙ sum-more binary32 sq _ _ _ (h .inv .6),
     )
 
--- src/copy.rt:24:1
 same-length : tie.Need-same-length Inv-loop μ-loop
 same-length c = search needs
 
--- src/copy.rt:24:1
 returns : tie.Need-returns Inv-loop μ-loop
 unfolding periodicCopy copiedEnergy
 returns c =

@@ -1,24 +1,13 @@
-use mathlib.Core.Path.{_≡_, refl, ap, _∙_, sym}
-use mathlib.Core.List.{List, [], _∷_, _++_}
-use mathlib.Core.Logic.{⊎-elim}
-use Prim.Native.Nat.{ℕ, zero, suc, _+_, _≤_, _<_, _-_}
-use native.Mathlib.Omega.{arith}
-use native.Mathlib.Numerals.{add-one}
-use lib.ListN.{length, getD, set, take, drop, length-set}
+use mathlib.Core.Path.{_≡_, ap, _∙_, sym}
+use mathlib.Core.List.{List}
+use Prim.Native.Nat.{ℕ, _+_, _≤_, _-_, _*_}
 use borrow.Author.Needs.{needs}
 use lib.Ieee.{Float, binary32, div}
 use Rattle.pitch_loss.specs.Decay.{squareAt, decayPeriod, periodEnergy, decayOf, pitchDecay}
-use Prim.Native.Nat.{_*_}
-use Rattle.loops.specs.Sum.{sumTo, sum-none, sum-more}
-use Rattle.float_bits.specs.Extremes.{minOf}
+use Rattle.loops.specs.Sum.{sum-none, sum-more}
 use Rattle.float_bits.specs.Root.{sqrtOf}
 use Rattle.pitch_loss.proofs.decay.pitch_decay.Statement.{statement}
 use Rattle.pitch_loss.proofs.decay.pitch_decay.Tie as tie
-use Rattle.pitch_loss.proofs.decay.pitch_decay.Reads as reads
-use Rattle.pitch_loss.proofs.decay.pitch_decay.Lts as lts
-use Rattle.float_bits.proofs.extremes.min_f32.Reads as min-f32-reads
-use Rattle.float_bits.proofs.root.sqrt_f32.Reads as sqrt-f32-reads
-use Rattle.pitch_loss.proofs.decay.decay_period.Reads as decay-period-reads
 
 abbrev Inv-loop : tie.InvT-loop
 Inv-loop exc lag period new old e1₀ e2₀ i₀ e1 e2 i = (i ≤ period) × (e1 ≡ periodEnergy exc new i) × (e2 ≡ periodEnergy exc old i)
@@ -26,60 +15,46 @@ Inv-loop exc lag period new old e1₀ e2₀ i₀ e1 e2 i = (i ≤ period) × (e1
 abbrev μ-loop : tie.MeasureT-loop
 μ-loop exc lag period new old e1₀ e2₀ i₀ e1 e2 i = period - i
 
--- src/decay.rt:19:9
 decay-period-requires : tie.Need-decay-period-requires Inv-loop μ-loop
 decay-period-requires c κs = search needs
 
--- src/decay.rt:20:15
 sub-new : tie.Need-sub-new Inv-loop μ-loop
 sub-new c = search needs
 
--- src/decay.rt:21:22
 mul-old : tie.Need-mul-old Inv-loop μ-loop
 mul-old c = search needs
 
--- src/decay.rt:21:15
 sub-old : tie.Need-sub-old Inv-loop μ-loop
 sub-old c = search needs
 
--- src/decay.rt:24:5
 loop-holds : tie.Need-loop-holds Inv-loop μ-loop
 unfolding periodEnergy
 loop-holds c = (search needs, sym (sum-none _ _ _), sym (sum-none _ _ _))
 
--- src/decay.rt:25:21
 add-a : tie.Need-add-a Inv-loop μ-loop
 add-a c = search needs
 
--- src/decay.rt:25:17
 mul-a : tie.Need-mul-a Inv-loop μ-loop
 mul-a c = search needs
 
--- src/decay.rt:25:17
 shared-slice-read-a : tie.Need-shared-slice-read-a Inv-loop μ-loop
 shared-slice-read-a c = search needs
 
--- src/decay.rt:26:21
 add-b : tie.Need-add-b Inv-loop μ-loop
 add-b c = search needs
 
--- src/decay.rt:26:17
 mul-b : tie.Need-mul-b Inv-loop μ-loop
 mul-b c = search needs
 
--- src/decay.rt:26:17
 shared-slice-read-b : tie.Need-shared-slice-read-b Inv-loop μ-loop
 shared-slice-read-b c = search needs
 
--- src/decay.rt:24:9
 add-i : tie.Need-add-i Inv-loop μ-loop
 add-i c = search needs
 
--- src/decay.rt:24:5
 loop-less : tie.Need-loop-less Inv-loop μ-loop
 loop-less c = search needs
 
--- src/decay.rt:24:5
 loop-again : tie.Need-loop-again Inv-loop μ-loop
 unfolding periodEnergy
 loop-again c =
@@ -91,15 +66,12 @@ loop-again c =
       sum-more binary32 (λ (k : ℕ). squareAt exc (1024 - 2 * p + k)) _ _ _ (h .inv .2),
     )
 
--- src/decay.rt:30:9
 min-f32-requires : tie.Need-min-f32-requires Inv-loop μ-loop
 min-f32-requires c κs = search needs
 
--- src/decay.rt:31:5
 sqrt-f32-requires : tie.Need-sqrt-f32-requires Inv-loop μ-loop
 sqrt-f32-requires c κs = search needs
 
--- src/decay.rt:15:1
 returns : tie.Need-returns Inv-loop μ-loop
 unfolding pitchDecay decayOf
 returns c =

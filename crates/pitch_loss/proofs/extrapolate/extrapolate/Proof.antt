@@ -1,47 +1,33 @@
-use mathlib.Core.Path.{_≡_, refl, ap, _∙_, sym}
-use mathlib.Core.List.{List, [], _∷_, _++_}
-use mathlib.Core.Logic.{⊎-elim}
-use Prim.Native.Nat.{ℕ, zero, suc, _+_, _≤_, _<_, _-_}
+use mathlib.Core.Path.{_≡_, _∙_}
+use mathlib.Core.List.{List}
+use Prim.Native.Nat.{_≤_}
 use native.Mathlib.Omega.{arith}
-use native.Mathlib.Numerals.{add-one}
-use lib.ListN.{length, getD, set, take, drop, length-set}
+use lib.ListN.{length}
 use borrow.Author.Needs.{needs}
 use lib.Ieee.{Float}
-use borrow.Author.Tests.{eq-eqb, ne-eqb, le-leb}
-use Rattle.loops.specs.Pick.{pick-true, pick-false}
+use borrow.Author.Tests.{le-leb}
+use Rattle.loops.specs.Pick.{pick-true}
 use Rattle.plc.specs.Iir.{celtIir}
 use Rattle.pitch_loss.specs.Extrapolate.{excitation}
 use Rattle.pitch_loss.proofs.Whole.{extrapolate-is, cycle-length}
 use Rattle.pitch_loss.proofs.extrapolate.extrapolate.Statement.{statement}
 use Rattle.pitch_loss.proofs.extrapolate.extrapolate.Tie as tie
-use Rattle.pitch_loss.proofs.extrapolate.extrapolate.Reads as reads
-use Rattle.pitch_loss.proofs.extrapolate.extrapolate.Lts as lts
-use Rattle.pitch_loss.proofs.extrapolate.most_recent.Reads as most-recent-reads
-use Rattle.pitch_loss.proofs.extrapolate.repeat_cycle.Reads as repeat-cycle-reads
-use Rattle.pitch_loss.proofs.guard.energy_guard.Reads as energy-guard-reads
-use Rattle.plc.proofs.iir.celt_iir_inplace.Reads as celt-iir-inplace-reads
 
--- src/extrapolate.rt:63:15
 most-recent-requires : tie.Need-most-recent-requires
 most-recent-requires c κs = search needs
 
--- src/extrapolate.rt:64:9
 repeat-cycle-requires : tie.Need-repeat-cycle-requires
 repeat-cycle-requires c κs = search needs
 
--- src/extrapolate.rt:65:5
 celt-iir-inplace-requires : tie.Need-celt-iir-inplace-requires
 celt-iir-inplace-requires c κs = search needs
 
--- src/extrapolate.rt:66:5
 energy-guard-requires : tie.Need-energy-guard-requires
 energy-guard-requires c κs = search needs
 
--- src/extrapolate.rt:59:1
 same-length : tie.Need-same-length
 same-length c = search needs
 
--- src/extrapolate.rt:59:1
 returns : tie.Need-returns
 returns c =
     let a = c .before .before .before .before .before .before .before .before .before .before .before .before .before .before .before .before .before .args in

@@ -1,65 +1,46 @@
-use mathlib.Core.Path.{_≡_, refl, ap, _∙_, sym}
-use mathlib.Core.List.{List, [], _∷_, _++_}
-use mathlib.Core.Logic.{⊎-elim}
-use Prim.Native.Nat.{ℕ, zero, suc, _+_, _≤_, _<_, _-_}
+use mathlib.Core.Path.{_≡_, _∙_, sym}
+use mathlib.Core.List.{List}
+use Prim.Native.Nat.{ℕ, _≤_}
 use native.Mathlib.Omega.{arith}
-use native.Mathlib.Numerals.{add-one}
-use lib.ListN.{length, getD, set, take, drop, length-set}
+use lib.ListN.{length}
 use borrow.Author.Needs.{needs}
 use lib.Ieee.{Float}
-use borrow.Author.Tests.{eq-eqb, ne-eqb, le-leb}
-use Rattle.loops.specs.Pick.{pick-true, pick-false}
-use mathlib.Core.Bool.{true, _&&_}
-use lib.Dec.{eqb, leb}
-use Rattle.plc.specs.Iir.{celtIir, iirPairTakes}
+use borrow.Author.Tests.{eq-eqb, le-leb}
+use Rattle.loops.specs.Pick.{pick-true}
+use mathlib.Core.Bool.{true}
+use Rattle.plc.specs.Iir.{iirPairTakes}
 use Rattle.pitch_loss.specs.Extrapolate.{excitation}
 use Rattle.pitch_loss.proofs.Whole.{extrapolate-is, cycle-length}
 use Rattle.pitch_loss.proofs.extrapolate.extrapolate_pair.Statement.{statement}
 use Rattle.pitch_loss.proofs.extrapolate.extrapolate_pair.Tie as tie
-use Rattle.pitch_loss.proofs.extrapolate.extrapolate_pair.Reads as reads
-use Rattle.pitch_loss.proofs.extrapolate.extrapolate_pair.Lts as lts
-use Rattle.pitch_loss.proofs.extrapolate.most_recent.Reads as most-recent-reads
-use Rattle.pitch_loss.proofs.extrapolate.repeat_cycle.Reads as repeat-cycle-reads
-use Rattle.pitch_loss.proofs.guard.energy_guard.Reads as energy-guard-reads
-use Rattle.plc.proofs.iir.celt_iir_pair.Reads as celt-iir-pair-reads
 
--- src/extrapolate.rt:85:16
 most-recent-requires : tie.Need-most-recent-requires
 most-recent-requires c κs = search needs
 
--- src/extrapolate.rt:86:16
 most-recent-requires-2 : tie.Need-most-recent-requires-2
 most-recent-requires-2 c κs = search needs
 
--- src/extrapolate.rt:87:9
 repeat-cycle-requires : tie.Need-repeat-cycle-requires
 repeat-cycle-requires c κs = search needs
 
--- src/extrapolate.rt:88:9
 repeat-cycle-requires-2 : tie.Need-repeat-cycle-requires-2
 repeat-cycle-requires-2 c κs = search needs
 
--- src/extrapolate.rt:89:5
 celt-iir-pair-requires : tie.Need-celt-iir-pair-requires
 celt-iir-pair-requires c κs = search needs
 
--- src/extrapolate.rt:90:5
 energy-guard-requires : tie.Need-energy-guard-requires
 energy-guard-requires c κs = search needs
 
--- src/extrapolate.rt:91:5
 energy-guard-requires-2 : tie.Need-energy-guard-requires-2
 energy-guard-requires-2 c κs = search needs
 
--- src/extrapolate.rt:70:1
 same-length : tie.Need-same-length
 same-length c = search needs
 
--- src/extrapolate.rt:70:1
 same-length-2 : tie.Need-same-length-2
 same-length-2 c = search needs
 
--- src/extrapolate.rt:70:1
 returns : tie.Need-returns
 returns c =
     let a = c .before .before .before .before .before .before .before .before .before .before .before .before .before .before .before .before .before .before .before .before .before .before .before .before .before .before .before .before .before .before .before .before .before .args in

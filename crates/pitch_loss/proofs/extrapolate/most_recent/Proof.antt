@@ -1,18 +1,12 @@
-use mathlib.Core.Path.{_≡_, refl, ap, _∙_, sym}
-use mathlib.Core.List.{List, [], _∷_, _++_}
-use mathlib.Core.Logic.{⊎-elim}
-use Prim.Native.Nat.{ℕ, zero, suc, _+_, _≤_, _<_, _-_}
-use native.Mathlib.Omega.{arith}
-use native.Mathlib.Numerals.{add-one}
-use lib.ListN.{length, getD, set, take, drop, length-set}
+use mathlib.Core.Path.{_≡_, refl}
+use Prim.Native.Nat.{ℕ, _≤_, _-_}
+use lib.ListN.{length, getD, length-set}
 use borrow.Author.Needs.{needs}
-use lib.Ieee.{Float, nan, binary32, mul, neg, ofBits}
-use Rattle.loops.specs.Front.{front, tab, length-tab, tab-none, tab-more, tab-all, tab-list}
+use lib.Ieee.{Float, nan}
+use Rattle.loops.specs.Front.{front, tab, tab-none, tab-more, tab-all}
 use Rattle.pitch_loss.specs.Extrapolate.{recent}
 use Rattle.pitch_loss.proofs.extrapolate.most_recent.Statement.{statement}
 use Rattle.pitch_loss.proofs.extrapolate.most_recent.Tie as tie
-use Rattle.pitch_loss.proofs.extrapolate.most_recent.Reads as reads
-use Rattle.pitch_loss.proofs.extrapolate.most_recent.Lts as lts
 
 abbrev Inv-loop : tie.InvT-loop
 Inv-loop new mem₀ j₀ mem j = (j ≤ 24) × (length mem₀ ≡ 24) × (length mem ≡ 24) × (mem ≡ front (tab (λ (k : ℕ). getD new (1023 - k) nan) j) mem₀ j)
@@ -20,46 +14,36 @@ Inv-loop new mem₀ j₀ mem j = (j ≤ 24) × (length mem₀ ≡ 24) × (length
 abbrev μ-loop : tie.MeasureT-loop
 μ-loop new mem₀ j₀ mem j = 24 - j
 
--- src/extrapolate.rt:20:5
 loop-holds : tie.Need-loop-holds Inv-loop μ-loop
 loop-holds c = (search needs, search needs, search needs, tab-none (λ (k : ℕ). getD (c .args .new .now) (1023 - k) nan) _)
 
--- src/extrapolate.rt:21:22
 sub-mem : tie.Need-sub-mem Inv-loop μ-loop
 sub-mem c = search needs
 
--- src/extrapolate.rt:21:18
 mul-mem : tie.Need-mul-mem Inv-loop μ-loop
 mul-mem c = search needs
 
--- src/extrapolate.rt:21:18
 shared-slice-read-mem : tie.Need-shared-slice-read-mem Inv-loop μ-loop
 shared-slice-read-mem c = search needs
 
--- src/extrapolate.rt:21:9
 mul-mem-2 : tie.Need-mul-mem-2 Inv-loop μ-loop
 mul-mem-2 c = search needs
 
--- src/extrapolate.rt:21:9
 array-write-mem : tie.Need-array-write-mem Inv-loop μ-loop
 array-write-mem c = search needs
 
--- src/extrapolate.rt:20:9
 add-j : tie.Need-add-j Inv-loop μ-loop
 add-j c = search needs
 
--- src/extrapolate.rt:20:5
 loop-less : tie.Need-loop-less Inv-loop μ-loop
 loop-less c = search needs
 
--- src/extrapolate.rt:20:5
 loop-again : tie.Need-loop-again Inv-loop μ-loop
 loop-again c =
     let h = c .before .before .loop in
     let f : ℕ → Float = λ (k : ℕ). getD (c .before .before .before .args .new .now) (1023 - k) nan in
     (search needs, search needs, simp length-set (search needs), tab-more f nan _ _ _ (h .inv .3) _ refl (search needs))
 
--- src/extrapolate.rt:15:1
 returns : tie.Need-returns Inv-loop μ-loop
 unfolding recent
 returns c =

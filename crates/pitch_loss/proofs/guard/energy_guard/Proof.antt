@@ -1,40 +1,23 @@
-use mathlib.Core.Path.{_≡_, refl, ap, _∙_, sym}
-use mathlib.Core.List.{List, [], _∷_, _++_}
-use mathlib.Core.Logic.{⊎-elim}
-use Prim.Native.Nat.{ℕ, zero, suc, _+_, _≤_, _<_, _-_}
-use native.Mathlib.Omega.{arith}
-use native.Mathlib.Numerals.{add-one}
-use lib.ListN.{length, getD, set, take, drop, length-set}
+use mathlib.Core.Path.{_≡_, refl, ap, _∙_}
 use borrow.Author.Needs.{needs}
 use Rattle.pitch_loss.specs.Guard.{scaled, backScale}
 use lib.Ieee.{Float}
 use Rattle.pitch_loss.proofs.Laws.{guard-zeroed, guard-scaled, guard-kept}
 use Rattle.pitch_loss.proofs.guard.energy_guard.Statement.{statement}
 use Rattle.pitch_loss.proofs.guard.energy_guard.Tie as tie
-use Rattle.pitch_loss.proofs.guard.energy_guard.Reads as reads
-use Rattle.pitch_loss.proofs.guard.energy_guard.Lts as lts
-use Rattle.float_bits.proofs.root.sqrt_f32.Reads as sqrt-f32-reads
-use Rattle.pitch_loss.proofs.guard.energy_of.Reads as energy-of-reads
-use Rattle.pitch_loss.proofs.guard.scale.Reads as scale-reads
-use Rattle.pitch_loss.proofs.guard.silence.Reads as silence-reads
 
--- src/guard.rt:43:9
 energy-of-requires : tie.Need-energy-of-requires
 energy-of-requires c κs = search needs
 
--- src/guard.rt:46:17
 sqrt-f32-requires : tie.Need-sqrt-f32-requires
 sqrt-f32-requires c κs = search needs
 
--- src/guard.rt:47:13
 scale-requires : tie.Need-scale-requires
 scale-requires c κs = search needs
 
--- src/guard.rt:49:9
 same-length : tie.Need-same-length
 same-length c = search needs
 
--- src/guard.rt:49:9
 returns : tie.Need-returns
 unfolding backScale
 returns c =
@@ -44,25 +27,20 @@ returns c =
     c .before .before .scale .ensures ∙ ap (λ z. scaled z (a .e .now)) (c .before .before .before .before .sqrt-f32 .ensures) in
     guard-scaled (a .s1) s2 (a .e .now) _ (c .before .before .before .before .before .before .before .energy-of .ensures) (c .before .before .before .before .before .before .if1 .taken) (c .before .before .before .before .before .if2 .taken) q
 
--- src/guard.rt:49:9
 same-length-2 : tie.Need-same-length-2
 same-length-2 c = search needs
 
--- src/guard.rt:49:9
 returns-2 : tie.Need-returns-2
 returns-2 c =
     let a = c .before .before .before .before .before .args in
     guard-kept (a .s1) (c .before .before .energy-of .result) (a .e .now) _ (c .before .before .energy-of .ensures) (c .before .if1 .taken) (c .if2 .left) refl
 
--- src/guard.rt:51:5
 silence-requires : tie.Need-silence-requires
 silence-requires c κs = search needs
 
--- src/guard.rt:40:1
 same-length-3 : tie.Need-same-length-3
 same-length-3 c = search needs
 
--- src/guard.rt:40:1
 returns-3 : tie.Need-returns-3
 returns-3 c =
     let a = c .before .before .before .before .before .before .before .before .args in

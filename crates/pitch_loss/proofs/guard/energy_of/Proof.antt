@@ -1,19 +1,14 @@
-use mathlib.Core.Path.{_≡_, refl, ap, _∙_, sym}
-use mathlib.Core.List.{List, [], _∷_, _++_}
-use mathlib.Core.Logic.{⊎-elim}
-use Prim.Native.Nat.{ℕ, zero, suc, _+_, _≤_, _<_, _-_}
-use native.Mathlib.Omega.{arith}
-use native.Mathlib.Numerals.{add-one}
-use lib.ListN.{length, getD, set, take, drop, length-set}
+use mathlib.Core.Path.{_≡_, ap, _∙_, sym}
+use mathlib.Core.List.{List}
+use Prim.Native.Nat.{_≤_, _-_}
+use lib.ListN.{length}
 use borrow.Author.Needs.{needs}
-use lib.Ieee.{Float, nan, binary32, ofBits}
+use lib.Ieee.{Float, binary32, ofBits}
 use Rattle.loops.specs.Sum.{sumTo, sum-none, sum-more}
 use Rattle.pitch_loss.specs.Guard.{energy}
 use Rattle.pitch_loss.specs.Decay.{squareAt}
 use Rattle.pitch_loss.proofs.guard.energy_of.Statement.{statement}
 use Rattle.pitch_loss.proofs.guard.energy_of.Tie as tie
-use Rattle.pitch_loss.proofs.guard.energy_of.Reads as reads
-use Rattle.pitch_loss.proofs.guard.energy_of.Lts as lts
 
 abbrev Inv-loop : tie.InvT-loop
 Inv-loop e n s₀ i₀ s i = (i ≤ n) × (s ≡ sumTo binary32 (squareAt e) (ofBits binary32 0) i)
@@ -21,31 +16,24 @@ Inv-loop e n s₀ i₀ s i = (i ≤ n) × (s ≡ sumTo binary32 (squareAt e) (of
 abbrev μ-loop : tie.MeasureT-loop
 μ-loop e n s₀ i₀ s i = n - i
 
--- src/guard.rt:32:5
 loop-holds : tie.Need-loop-holds Inv-loop μ-loop
 loop-holds c = (search needs, sym (sum-none _ _ _))
 
--- src/guard.rt:33:17
 mul-v : tie.Need-mul-v Inv-loop μ-loop
 mul-v c = search needs
 
--- src/guard.rt:33:17
 shared-slice-read-v : tie.Need-shared-slice-read-v Inv-loop μ-loop
 shared-slice-read-v c = search needs
 
--- src/guard.rt:32:9
 add-i : tie.Need-add-i Inv-loop μ-loop
 add-i c = search needs
 
--- src/guard.rt:32:5
 loop-less : tie.Need-loop-less Inv-loop μ-loop
 loop-less c = search needs
 
--- src/guard.rt:32:5
 loop-again : tie.Need-loop-again Inv-loop μ-loop
 loop-again c = (search needs, sum-more _ _ _ _ _ (c .before .before .loop .inv .1))
 
--- src/guard.rt:27:1
 returns : tie.Need-returns Inv-loop μ-loop
 unfolding energy
 returns c =

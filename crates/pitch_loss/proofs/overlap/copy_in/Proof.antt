@@ -1,17 +1,11 @@
-use mathlib.Core.Path.{_≡_, refl, ap, _∙_, sym}
-use mathlib.Core.List.{List, [], _∷_, _++_}
-use mathlib.Core.Logic.{⊎-elim}
-use Prim.Native.Nat.{ℕ, zero, suc, _+_, _≤_, _<_, _-_}
-use native.Mathlib.Omega.{arith}
-use native.Mathlib.Numerals.{add-one}
-use lib.ListN.{length, getD, set, take, drop, length-set}
+use mathlib.Core.Path.{_≡_, refl, ap, _∙_}
+use Prim.Native.Nat.{ℕ, _≤_, _-_}
+use lib.ListN.{length, getD, length-set}
 use borrow.Author.Needs.{needs}
-use lib.Ieee.{Float, nan, binary32, mul, ofBits}
-use Rattle.loops.specs.Front.{front, tab, length-tab, tab-none, tab-more, tab-all, tab-list}
+use lib.Ieee.{Float, nan}
+use Rattle.loops.specs.Front.{front, tab, tab-none, tab-more, tab-all, tab-list}
 use Rattle.pitch_loss.proofs.overlap.copy_in.Statement.{statement}
 use Rattle.pitch_loss.proofs.overlap.copy_in.Tie as tie
-use Rattle.pitch_loss.proofs.overlap.copy_in.Reads as reads
-use Rattle.pitch_loss.proofs.overlap.copy_in.Lts as lts
 
 abbrev Inv-loop : tie.InvT-loop
 Inv-loop dst₀ src n i₀ dst i = (i ≤ n) × (length dst ≡ length dst₀) × (dst ≡ front (tab (λ (k : ℕ). getD src k nan) i) dst₀ i)
@@ -19,43 +13,33 @@ Inv-loop dst₀ src n i₀ dst i = (i ≤ n) × (length dst ≡ length dst₀) �
 abbrev μ-loop : tie.MeasureT-loop
 μ-loop dst₀ src n i₀ dst i = n - i
 
--- src/overlap.rt:13:5
 loop-holds : tie.Need-loop-holds Inv-loop μ-loop
 loop-holds c = (search needs, search needs, tab-none (λ (k : ℕ). getD (c .args .src .now) k nan) _)
 
--- src/overlap.rt:14:18
 mul-dst : tie.Need-mul-dst Inv-loop μ-loop
 mul-dst c = search needs
 
--- src/overlap.rt:14:18
 shared-slice-read-dst : tie.Need-shared-slice-read-dst Inv-loop μ-loop
 shared-slice-read-dst c = search needs
 
--- src/overlap.rt:14:9
 mul-dst-2 : tie.Need-mul-dst-2 Inv-loop μ-loop
 mul-dst-2 c = search needs
 
--- src/overlap.rt:14:9
 slice-write-dst : tie.Need-slice-write-dst Inv-loop μ-loop
 slice-write-dst c = search needs
 
--- src/overlap.rt:13:9
 add-i : tie.Need-add-i Inv-loop μ-loop
 add-i c = search needs
 
--- src/overlap.rt:13:5
 loop-less : tie.Need-loop-less Inv-loop μ-loop
 loop-less c = search needs
 
--- src/overlap.rt:13:5
 loop-again : tie.Need-loop-again Inv-loop μ-loop
 loop-again c = (search needs, simp length-set (search needs), tab-more (λ (k : ℕ). getD (c .before .before .before .args .src .now) k nan) nan _ _ _ (c .before .before .loop .inv .2) _ refl (search needs))
 
--- src/overlap.rt:8:1
 same-length : tie.Need-same-length Inv-loop μ-loop
 same-length c = search needs
 
--- src/overlap.rt:8:1
 returns : tie.Need-returns Inv-loop μ-loop
 returns c =
     let h = c .before .loop in

@@ -1,21 +1,15 @@
-use mathlib.Core.Path.{_≡_, refl, ap, _∙_, sym}
-use mathlib.Core.List.{List, [], _∷_, _++_}
-use mathlib.Core.Logic.{⊎-elim}
-use Prim.Native.Nat.{ℕ, zero, suc, _+_, _≤_, _<_, _-_}
+use mathlib.Core.Path.{_≡_, ap, _∙_}
+use mathlib.Core.List.{List}
+use Prim.Native.Nat.{ℕ, _≤_, _<_, _-_}
 use native.Mathlib.Omega.{arith}
-use native.Mathlib.Numerals.{add-one}
-use lib.ListN.{length, getD, set, take, drop, length-set}
+use lib.ListN.{length, getD, length-set}
 use borrow.Author.Needs.{needs}
-use lib.Ieee.{Float, nan, binary32, mul, ofBits}
-use Rattle.loops.specs.Front.{front, tab, length-tab, tab-none, tab-more, tab-all, tab-list}
+use lib.Ieee.{Float, nan, binary32, mul}
+use Rattle.loops.specs.Front.{front, tab, tab-none, tab-more, tab-all}
 use Rattle.pitch_loss.specs.Overlap.{foldSum, fromEnd, folded}
 use Rattle.pitch_loss.proofs.Laws.{fromEnd-lt}
 use Rattle.pitch_loss.proofs.overlap.fold_tail.Statement.{statement}
 use Rattle.pitch_loss.proofs.overlap.fold_tail.Tie as tie
-use Rattle.pitch_loss.proofs.overlap.fold_tail.Reads as reads
-use Rattle.pitch_loss.proofs.overlap.fold_tail.Lts as lts
-use Rattle.pitch_loss.proofs.overlap.fold_sum.Reads as fold-sum-reads
-use Rattle.pitch_loss.proofs.overlap.from_end.Reads as from-end-reads
 
 -- what stands at place k of the overlap
 abbrev place : List Float → ℕ → List Float → ℕ → Float
@@ -27,50 +21,39 @@ Inv-loop over₀ w n e k₀ over k = (k ≤ 120) × (length over ≡ 120) × (ov
 abbrev μ-loop : tie.MeasureT-loop
 μ-loop over₀ w n e k₀ over k = 120 - k
 
--- src/overlap.rt:61:5
 loop-holds : tie.Need-loop-holds Inv-loop μ-loop
 loop-holds c = let a = c .before .before .before .args in (search needs, search needs, tab-none (place (a .w .now) (a .n) (a .e .now)) _)
 
--- src/overlap.rt:62:13
 from-end-requires : tie.Need-from-end-requires Inv-loop μ-loop
 from-end-requires c κs = search needs
 
--- src/overlap.rt:63:21
 sub-over : tie.Need-sub-over Inv-loop μ-loop
 sub-over c = search needs
 
--- src/overlap.rt:63:19
 mul-over : tie.Need-mul-over Inv-loop μ-loop
 mul-over c = search needs
 
--- src/overlap.rt:63:19
 shared-slice-read-over : tie.Need-shared-slice-read-over Inv-loop μ-loop
 shared-slice-read-over c = search needs
 
--- src/overlap.rt:63:32
 fold-sum-requires : tie.Need-fold-sum-requires Inv-loop μ-loop
 fold-sum-requires c κs =
     let l : fromEnd (c .before .before .before .loop .k) < 120 = fromEnd-lt _ (search needs) in
     let e : c .before .from-end .result ≡ fromEnd (c .before .before .before .loop .k) = c .before .from-end .ensures in
     (search needs, search needs, omega arith, search needs)
 
--- src/overlap.rt:63:9
 mul-over-2 : tie.Need-mul-over-2 Inv-loop μ-loop
 mul-over-2 c = search needs
 
--- src/overlap.rt:63:9
 slice-write-over : tie.Need-slice-write-over Inv-loop μ-loop
 slice-write-over c = search needs
 
--- src/overlap.rt:61:9
 add-k : tie.Need-add-k Inv-loop μ-loop
 add-k c = search needs
 
--- src/overlap.rt:61:5
 loop-less : tie.Need-loop-less Inv-loop μ-loop
 loop-less c = search needs
 
--- src/overlap.rt:61:5
 loop-again : tie.Need-loop-again Inv-loop μ-loop
 loop-again c =
     let h = c .before .before .before .before .loop in
@@ -82,11 +65,9 @@ loop-again c =
       tab-more (place (a .w .now) (a .n) (a .e .now)) nan _ _ _ (h .inv .2) _ (ap (mul binary32 (getD (a .w .now) (119 - h .k) nan)) q) (search needs),
     )
 
--- src/overlap.rt:57:1
 same-length : tie.Need-same-length Inv-loop μ-loop
 same-length c = search needs
 
--- src/overlap.rt:57:1
 returns : tie.Need-returns Inv-loop μ-loop
 unfolding folded
 returns c =

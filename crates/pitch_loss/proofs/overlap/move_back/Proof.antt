@@ -1,19 +1,12 @@
-use mathlib.Core.Path.{_≡_, refl, ap, _∙_, sym}
-use mathlib.Core.List.{List, [], _∷_, _++_}
-use mathlib.Core.Logic.{⊎-elim}
-use Prim.Native.Nat.{ℕ, zero, suc, _+_, _≤_, _<_, _-_}
-use native.Mathlib.Omega.{arith}
-use native.Mathlib.Numerals.{add-one}
-use lib.ListN.{length, getD, set, take, drop, length-set}
+use mathlib.Core.Path.{_≡_}
+use Prim.Native.Nat.{ℕ, _+_, _≤_, _-_}
+use lib.ListN.{length, getD, length-set}
 use borrow.Author.Needs.{needs}
-use lib.Ieee.{Float, nan, binary32, mul, ofBits}
-use Rattle.loops.specs.Front.{front, tab, length-tab, tab-none, tab-more, tab-all, tab-list}
-use Rattle.pitch_loss.specs.Overlap.{movedBack}
+use lib.Ieee.{Float, nan}
+use Rattle.loops.specs.Front.{front, tab, length-tab, tab-none, tab-more}
 use Rattle.pitch_loss.proofs.Laws.{front-later, moved-is}
 use Rattle.pitch_loss.proofs.overlap.move_back.Statement.{statement}
 use Rattle.pitch_loss.proofs.overlap.move_back.Tie as tie
-use Rattle.pitch_loss.proofs.overlap.move_back.Reads as reads
-use Rattle.pitch_loss.proofs.overlap.move_back.Lts as lts
 
 abbrev Inv-loop : tie.InvT-loop
 Inv-loop new₀ n kept i₀ new i = (i ≤ kept) × (length new ≡ length new₀) × (new ≡ front (tab (λ (k : ℕ). getD new₀ (n + k) nan) i) new₀ i)
@@ -21,43 +14,33 @@ Inv-loop new₀ n kept i₀ new i = (i ≤ kept) × (length new ≡ length new�
 abbrev μ-loop : tie.MeasureT-loop
 μ-loop new₀ n kept i₀ new i = kept - i
 
--- src/overlap.rt:23:16
 sub-kept : tie.Need-sub-kept Inv-loop μ-loop
 sub-kept c = search needs
 
--- src/overlap.rt:24:5
 loop-holds : tie.Need-loop-holds Inv-loop μ-loop
 loop-holds c = (search needs, search needs, tab-none (λ (k : ℕ). getD (c .args .new .now) (c .args .n + k) nan) _)
 
--- src/overlap.rt:25:22
 add-new : tie.Need-add-new Inv-loop μ-loop
 add-new c = search needs
 
--- src/overlap.rt:25:18
 mul-new : tie.Need-mul-new Inv-loop μ-loop
 mul-new c = search needs
 
--- src/overlap.rt:25:18
 slice-read-new : tie.Need-slice-read-new Inv-loop μ-loop
 slice-read-new c = search needs
 
--- src/overlap.rt:25:9
 mul-new-2 : tie.Need-mul-new-2 Inv-loop μ-loop
 mul-new-2 c = search needs
 
--- src/overlap.rt:25:9
 slice-write-new : tie.Need-slice-write-new Inv-loop μ-loop
 slice-write-new c = search needs
 
--- src/overlap.rt:24:9
 add-i : tie.Need-add-i Inv-loop μ-loop
 add-i c = search needs
 
--- src/overlap.rt:24:5
 loop-less : tie.Need-loop-less Inv-loop μ-loop
 loop-less c = search needs
 
--- src/overlap.rt:24:5
 loop-again : tie.Need-loop-again Inv-loop μ-loop
 loop-again c =
     let h = c .before .before .loop in
@@ -65,11 +48,9 @@ loop-again c =
     let f : ℕ → Float = λ (k : ℕ). getD (a .new .now) (a .n + k) nan in
     (search needs, simp length-set (search needs), tab-more f nan _ _ _ (h .inv .2) _ (front-later nan _ _ _ _ _ (h .inv .2) (length-tab f (h .i)) (search needs)) (search needs))
 
--- src/overlap.rt:19:1
 same-length : tie.Need-same-length Inv-loop μ-loop
 same-length c = search needs
 
--- src/overlap.rt:19:1
 returns : tie.Need-returns Inv-loop μ-loop
 returns c =
     let h = c .before .loop in

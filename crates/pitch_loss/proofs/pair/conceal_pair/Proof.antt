@@ -1,64 +1,45 @@
-use mathlib.Core.Path.{_≡_, refl, ap, _∙_, sym}
-use mathlib.Core.List.{List, [], _∷_, _++_}
-use mathlib.Core.Logic.{⊎-elim}
-use Prim.Native.Nat.{ℕ, zero, suc, _+_, _≤_, _<_, _-_}
+use mathlib.Core.Path.{_≡_, _∙_}
+use mathlib.Core.List.{List}
 use native.Mathlib.Omega.{arith}
-use native.Mathlib.Numerals.{add-one}
-use lib.ListN.{length, getD, set, take, drop, length-set}
+use lib.ListN.{length, take, drop, length-drop}
 use borrow.Author.Needs.{needs}
 use lib.Ieee.{Float}
-use lib.ListN.{length-drop}
 use lib.Seq.{length-take-le}
 use Rattle.loops.specs.Part.{put, length-put}
 use Rattle.pitch_loss.proofs.Pairs.{conceal-pair-is}
 use Rattle.pitch_loss.proofs.pair.conceal_pair.Statement.{statement}
 use Rattle.pitch_loss.proofs.pair.conceal_pair.Tie as tie
-use Rattle.pitch_loss.proofs.pair.conceal_pair.Reads as reads
-use Rattle.pitch_loss.proofs.pair.conceal_pair.Lts as lts
-use Rattle.pitch_loss.proofs.channel.lay.Reads as lay-reads
-use Rattle.pitch_loss.proofs.extrapolate.extrapolate_pair.Reads as extrapolate-pair-reads
 
--- src/pair.rt:26:50
 sub-extrapolate-pair : tie.Need-sub-extrapolate-pair
 sub-extrapolate-pair c = search needs
 
--- src/pair.rt:26:50
 part-extrapolate-pair-start : tie.Need-part-extrapolate-pair-start
 part-extrapolate-pair-start c = search needs
 
--- src/pair.rt:26:50
 part-extrapolate-pair-end : tie.Need-part-extrapolate-pair-end
 part-extrapolate-pair-end c = search needs
 
--- src/pair.rt:26:68
 sub-extrapolate-pair-2 : tie.Need-sub-extrapolate-pair-2
 sub-extrapolate-pair-2 c = search needs
 
--- src/pair.rt:26:68
 part-extrapolate-pair-start-2 : tie.Need-part-extrapolate-pair-start-2
 part-extrapolate-pair-start-2 c = search needs
 
--- src/pair.rt:26:68
 part-extrapolate-pair-end-2 : tie.Need-part-extrapolate-pair-end-2
 part-extrapolate-pair-end-2 c = search needs
 
--- src/pair.rt:26:5
 extrapolate-pair-requires : tie.Need-extrapolate-pair-requires
 extrapolate-pair-requires c κs = search needs
 
--- src/pair.rt:27:18
 sub-lay : tie.Need-sub-lay
 sub-lay c = search needs
 
--- src/pair.rt:27:18
 part-lay-start : tie.Need-part-lay-start
 part-lay-start c = search needs
 
--- src/pair.rt:27:18
 part-lay-end : tie.Need-part-lay-end
 part-lay-end c = search needs
 
--- src/pair.rt:27:5
 lay-requires : tie.Need-lay-requires
 lay-requires c κs =
     let a = c .before .before .before .before .before .before .before .before .before .before .before .before .before .before .before .args in
@@ -68,19 +49,15 @@ lay-requires c κs =
     let k : length (c .before .before .before .before .before .before .extrapolate-pair .last .0) ≡ length (a .e0 .now) = c .before .before .before .before .before .before .extrapolate-pair .kept .0 in
     ((q, k ∙ c .before .before .before .before .before .before .before .before .before .before .before .before .before .before .before .pre .0 .1, c .before .before .before .before .before .before .before .before .before .before .before .before .before .before .before .pre .1 .0), (c .before .before .before .before .before .before .before .before .before .before .before .before .before .before .before .pre .1 .3, c .before .before .before .before .before .before .before .before .before .before .before .before .before .before .before .pre .1 .4))
 
--- src/pair.rt:28:18
 sub-lay-2 : tie.Need-sub-lay-2
 sub-lay-2 c = search needs
 
--- src/pair.rt:28:18
 part-lay-start-2 : tie.Need-part-lay-start-2
 part-lay-start-2 c = search needs
 
--- src/pair.rt:28:18
 part-lay-end-2 : tie.Need-part-lay-end-2
 part-lay-end-2 c = search needs
 
--- src/pair.rt:28:5
 lay-requires-2 : tie.Need-lay-requires-2
 lay-requires-2 c κs =
     let a = c .before .before .before .before .before .before .before .before .before .before .before .before .before .before .before .before .before .before .before .before .args in
@@ -95,19 +72,15 @@ lay-requires-2 c κs =
     let k : length (c .before .before .before .before .before .before .before .before .before .before .before .extrapolate-pair .last .1 .0) ≡ length (a .e1 .now) = c .before .before .before .before .before .before .before .before .before .before .before .extrapolate-pair .kept .1 .0 in
     ((q, k ∙ c .before .before .before .before .before .before .before .before .before .before .before .before .before .before .before .before .before .before .before .before .pre .0 .2, c .before .before .before .before .before .before .before .before .before .before .before .before .before .before .before .before .before .before .before .before .pre .1 .0), (c .before .before .before .before .before .before .before .before .before .before .before .before .before .before .before .before .before .before .before .before .pre .1 .3, c .before .before .before .before .before .before .before .before .before .before .before .before .before .before .before .before .before .before .before .before .pre .1 .4))
 
--- src/pair.rt:10:1
 same-length : tie.Need-same-length
 same-length c = search needs
 
--- src/pair.rt:10:1
 same-length-2 : tie.Need-same-length-2
 same-length-2 c = search needs
 
--- src/pair.rt:10:1
 same-length-3 : tie.Need-same-length-3
 same-length-3 c = search needs
 
--- src/pair.rt:10:1
 returns : tie.Need-returns
 returns c =
     let a = c .before .before .before .before .before .before .before .before .before .before .before .before .before .before .before .before .before .before .before .before .before .before .before .args in

@@ -1,16 +1,12 @@
 use mathlib.Core.Path.{_≡_, refl, ap, _∙_, sym}
-use mathlib.Core.List.{List, [], _∷_, _++_}
-use mathlib.Core.Logic.{⊎-elim}
-use Prim.Native.Nat.{ℕ, zero, suc, _+_, _≤_, _<_, _-_}
+use Prim.Native.Nat.{ℕ, _≤_}
 use native.Mathlib.Omega.{arith}
-use native.Mathlib.Numerals.{add-one}
-use lib.ListN.{length, getD, set, take, drop, length-set}
+use lib.ListN.{length}
 use borrow.Author.Needs.{needs}
-use lib.Ieee.{Float}
-use borrow.Author.Tests.{eq-eqb, ne-eqb, le-leb}
+use borrow.Author.Tests.{eq-eqb, ne-eqb}
 use Rattle.loops.specs.Pick.{pick-true, pick-false}
 use lib.Seq.{length-take-le}
-use mathlib.Core.Bool.{Bool, true, false, cond, _&&_}
+use mathlib.Core.Bool.{Bool, true, false, _&&_}
 use lib.Dec.{eqb}
 use Rattle.pitch_loss.specs.declared.Filter.{Filter}
 use Rattle.pitch_loss.specs.Loss.{accepts, Accepted, accepts-is}
@@ -18,12 +14,6 @@ use Rattle.pitch_loss.specs.Pair.{acceptsPair, pitchLossPair}
 use Rattle.pitch_loss.proofs.Pairs.{pair-is}
 use Rattle.pitch_loss.proofs.pair.pitch_loss_pair.Statement.{statement}
 use Rattle.pitch_loss.proofs.pair.pitch_loss_pair.Tie as tie
-use Rattle.pitch_loss.proofs.pair.pitch_loss_pair.Reads as reads
-use Rattle.pitch_loss.proofs.pair.pitch_loss_pair.Lts as lts
-use Rattle.pitch_loss.proofs.channel.accepted.Reads as accepted-reads
-use Rattle.pitch_loss.proofs.channel.coefficients.Reads as coefficients-reads
-use Rattle.pitch_loss.proofs.channel.frame_size.Reads as frame-size-reads
-use Rattle.pitch_loss.proofs.pair.conceal_pair.Reads as conceal-pair-reads
 
 -- with both lengths right, the settings decide
 takes : (size lpc lm lag : ℕ) (f : Filter) (b : Bool) → size ≡ 4336 → lpc ≡ 48 → accepts 2168 24 lm lag f ≡ b → acceptsPair size lpc lm lag f ≡ b
@@ -34,77 +24,59 @@ takes size lpc lm lag f b p q r = ap (λ z. z && eqb lpc 48 && accepts 2168 24 l
 facts : (c : tie.Then3) → Accepted 2168 24 (c .before .before .before .before .before .before .args .lm) (c .before .before .before .before .before .before .args .lag) (c .before .before .before .before .before .before .args .filter)
 facts c = accepts-is _ _ _ _ _ (sym (c .before .accepted .ensures) ∙ c .if3 .taken)
 
--- src/pair.rt:38:9
 returns : tie.Need-returns
 unfolding acceptsPair
 returns c = let a = c .before .before .before .args in simp (ne-eqb (length (a .h .now)) 4336 (c .if1 .taken)) (refl, refl)
 
--- src/pair.rt:41:9
 returns-2 : tie.Need-returns-2
 unfolding acceptsPair
 returns-2 c = let a = c .before .before .before .before .args in simp (eq-eqb (length (a .h .now)) 4336 (search needs), ne-eqb (length (a .lpc .now)) 48 (c .if2 .taken)) (refl, refl)
 
--- src/pair.rt:43:8
 accepted-requires : tie.Need-accepted-requires
 accepted-requires c κs = search needs
 
--- src/pair.rt:44:42
 sub-coefficients : tie.Need-sub-coefficients
 sub-coefficients c = search needs
 
--- src/pair.rt:44:42
 part-coefficients-start : tie.Need-part-coefficients-start
 part-coefficients-start c = search needs
 
--- src/pair.rt:44:42
 part-coefficients-end : tie.Need-part-coefficients-end
 part-coefficients-end c = search needs
 
--- src/pair.rt:44:20
 coefficients-requires : tie.Need-coefficients-requires
 coefficients-requires c κs = search needs
 
--- src/pair.rt:45:42
 sub-coefficients-2 : tie.Need-sub-coefficients-2
 sub-coefficients-2 c = search needs
 
--- src/pair.rt:45:42
 part-coefficients-start-2 : tie.Need-part-coefficients-start-2
 part-coefficients-start-2 c = search needs
 
--- src/pair.rt:45:42
 part-coefficients-end-2 : tie.Need-part-coefficients-end-2
 part-coefficients-end-2 c = search needs
 
--- src/pair.rt:45:20
 coefficients-requires-2 : tie.Need-coefficients-requires-2
 coefficients-requires-2 c κs = search needs
 
--- src/pair.rt:46:13
 frame-size-requires : tie.Need-frame-size-requires
 frame-size-requires c κs = facts (c .before .before .before .before) .frame
 
--- src/pair.rt:47:17
 add-m : tie.Need-add-m
 add-m c = search needs
 
--- src/pair.rt:50:25
 array-borrow-prefix-e0 : tie.Need-array-borrow-prefix-e0
 array-borrow-prefix-e0 c = search needs
 
--- src/pair.rt:50:25
 slice-aggregate-conceal-pair : tie.Need-slice-aggregate-conceal-pair
 slice-aggregate-conceal-pair c = sym (length-take-le _ _ (search needs))
 
--- src/pair.rt:50:39
 array-borrow-prefix-e1 : tie.Need-array-borrow-prefix-e1
 array-borrow-prefix-e1 c = search needs
 
--- src/pair.rt:50:39
 slice-aggregate-conceal-pair-2 : tie.Need-slice-aggregate-conceal-pair-2
 slice-aggregate-conceal-pair-2 c = sym (length-take-le _ _ (search needs))
 
--- src/pair.rt:50:9
 conceal-pair-requires : tie.Need-conceal-pair-requires
 conceal-pair-requires c κs =
     let k = facts (c .before .before .before .before .before .before .before .before .before .before) in
@@ -112,11 +84,9 @@ conceal-pair-requires c κs =
     let w : length (c .before .before .before .before .before .before .before .before .before .before .before .before .before .before .before .before .args .h .now) ≡ 4336 = c .before .before .before .before .before .before .before .before .before .before .before .before .before .if1 .left in
     ((w, length-take-le _ _ (omega (arith, p)), length-take-le _ _ (omega (arith, p))), (p, k .lag-low, k .lag-high, k .period-low, k .period-high))
 
--- src/pair.rt:51:9
 same-length : tie.Need-same-length
 same-length c = search needs
 
--- src/pair.rt:51:9
 returns-3 : tie.Need-returns-3
 returns-3 c =
     let a = c .before .before .before .before .before .before .before .before .before .before .before .before .before .before .before .before .before .before .before .before .before .args in
@@ -135,7 +105,6 @@ returns-3 c =
     (c .before .before .before .before .conceal-pair .ensures) in
     (sym b, y ∙ sym (pick-true _ _ _ b))
 
--- src/pair.rt:33:1
 returns-4 : tie.Need-returns-4
 returns-4 c =
     let a = c .before .before .before .before .before .before .args in

@@ -1,67 +1,46 @@
-use mathlib.Core.Path.{_≡_, refl, ap, _∙_, sym}
-use mathlib.Core.List.{List, [], _∷_, _++_}
-use mathlib.Core.Logic.{⊎-elim}
-use Prim.Native.Nat.{ℕ, zero, suc, _+_, _≤_, _<_, _-_}
-use native.Mathlib.Omega.{arith}
-use native.Mathlib.Numerals.{add-one}
-use lib.ListN.{length, getD, set, take, drop, length-set}
+use mathlib.Core.Path.{_≡_, refl, ap, _∙_}
+use mathlib.Core.List.{List}
+use Prim.Native.Nat.{ℕ}
 use borrow.Author.Needs.{needs}
 use Rattle.pitch_loss.specs.Prefilter.{combFilterTo, tapGain}
 use lib.Ieee.{Float}
 use Rattle.pitch_loss.proofs.Laws.{pre-skip, pre-put}
 use Rattle.pitch_loss.proofs.prefilter.prefilter.Statement.{statement}
 use Rattle.pitch_loss.proofs.prefilter.prefilter.Tie as tie
-use Rattle.pitch_loss.proofs.prefilter.prefilter.Reads as reads
-use Rattle.pitch_loss.proofs.prefilter.prefilter.Lts as lts
-use Rattle.pitch_loss.proofs.overlap.copy_in.Reads as copy-in-reads
-use Rattle.pitch_loss.proofs.prefilter.comb_filter_to.Reads as comb-filter-to-reads
-use Rattle.pitch_loss.proofs.prefilter.tap_gains.Reads as tap-gains-reads
 
--- src/prefilter.rt:54:9
 returns : tie.Need-returns
 returns c = pre-skip _ _ (c .if1 .taken)
 
--- src/prefilter.rt:56:18
 cast-period : tie.Need-cast-period
 cast-period c = search needs
 
--- src/prefilter.rt:58:20
 slice-aggregate-comb-filter-to : tie.Need-slice-aggregate-comb-filter-to
 slice-aggregate-comb-filter-to c = search needs
 
--- src/prefilter.rt:58:41
 tap-gains-requires : tie.Need-tap-gains-requires
 tap-gains-requires c κs = search needs
 
--- src/prefilter.rt:58:5
 comb-filter-to-requires : tie.Need-comb-filter-to-requires
 comb-filter-to-requires c κs = search needs
 
--- src/prefilter.rt:59:29
 sub-copy-in : tie.Need-sub-copy-in
 sub-copy-in c = search needs
 
--- src/prefilter.rt:59:29
 part-copy-in-start : tie.Need-part-copy-in-start
 part-copy-in-start c = search needs
 
--- src/prefilter.rt:59:29
 part-copy-in-end : tie.Need-part-copy-in-end
 part-copy-in-end c = search needs
 
--- src/prefilter.rt:59:45
 slice-aggregate-copy-in : tie.Need-slice-aggregate-copy-in
 slice-aggregate-copy-in c = search needs
 
--- src/prefilter.rt:59:5
 copy-in-requires : tie.Need-copy-in-requires
 copy-in-requires c κs = search needs
 
--- src/prefilter.rt:49:1
 same-length : tie.Need-same-length
 same-length c = search needs
 
--- src/prefilter.rt:49:1
 returns-2 : tie.Need-returns-2
 returns-2 c =
     let a = c .before .before .before .before .before .before .before .before .before .before .before .before .before .before .args in
