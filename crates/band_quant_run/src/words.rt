@@ -13,7 +13,7 @@ fn wide(b: u8) -> u32
     b as u32
 }
 
-pub fn read_word() -> Word {
+pub(crate) fn read_word() -> Word {
     let mut b = [0u8; 4];
     let n = io::read_full(libc::STDIN_FILENO, &mut b);
     if n < 4 {
@@ -31,7 +31,7 @@ pub fn read_word() -> Word {
 }
 
 // False where the output takes no more.
-pub fn write_word(w: u32) -> bool {
+pub(crate) fn write_word(w: u32) -> bool {
     let b = [
         (w % 0x100) as u8,
         (w / 0x100 % 0x100) as u8,

@@ -1,10 +1,10 @@
 -- Words written one after the other, four bytes at a time.
 use mathlib.Core.Path.{_≡_, refl, ap, ap₂, _∙_, sym}
-use mathlib.Core.List.{List, [], _∷_, _++_, append-assoc, append-nil}
-use Prim.Native.Nat.{ℕ, zero, suc, _+_, _*_, _/_, _%_, _≤_, _<_}
+use mathlib.Core.List.{List, _++_, append-assoc, append-nil}
+use Prim.Native.Nat.{ℕ, _+_, _*_, _/_, _%_, _≤_, _<_}
 use native.Mathlib.Omega.{arith}
 use native.Mathlib.Nat.{div-one}
-use lib.ListN.{length, getD, set, take, drop, length-append, length-set, drop-of-length-le}
+use lib.ListN.{length, set, take, drop, length-append, drop-of-length-le}
 use lib.Seq.{take-at, drop-at, drop-drop, length-take-le}
 use Rattle.loops.specs.Part.{put}
 use Rattle.loops.specs.Front.{tab, length-tab, front, tab-none, tab-more, tab-all}

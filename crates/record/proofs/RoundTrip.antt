@@ -1,7 +1,7 @@
 -- Reading back what was written gives the state again.
 use mathlib.Core.Path.{_≡_, refl, ap, ap₂, _∙_, sym}
-use mathlib.Core.List.{List, [], _∷_, _++_, append-assoc, append-nil}
-use Prim.Native.Nat.{ℕ, _+_, _*_, _/_, _%_, _^_, _≤_, _<_}
+use mathlib.Core.List.{List, [], _++_, append-assoc, append-nil}
+use Prim.Native.Nat.{ℕ, _+_, _*_, _/_, _%_, _^_, _<_}
 use native.Mathlib.Omega.{arith}
 use native.Mathlib.Nat.{div-one, div-div-eq-div-mul, mod-eq-of-lt}
 use lib.ListN.{length, getD, length-append, List·getD-append}
@@ -9,7 +9,7 @@ use lib.Seq.{getD-append-add}
 use lib.Dec.{T, lit<}
 use lib.Ieee.{Float, nan, binary32, fits, ofBits, toBits}
 use lib.Ieee.Bits.{ofBits-toBits, toBits-lt}
-use Rattle.loops.specs.Front.{tab, getD-tab, tab-same, tab-list}
+use Rattle.loops.specs.Front.{getD-tab, tab-same, tab-list}
 use Rattle.ref_decode.specs.declared.state.State.{State}
 use Rattle.record.specs.Bytes.{wordAt, byteOf, bytesBy, floatsAt, wordsBytes, floatsBytes}
 use Rattle.record.specs.Record.{settingsOf, filterOf, stateOf, historyOf, headWords, stateBytes, recordOf}

@@ -1,19 +1,19 @@
 -- A channel's samples inside a history: what comes back of a part that a step was lent.
-use mathlib.Core.Path.{_≡_, refl, ap, ap₂, sym, _∙_}
-use mathlib.Core.List.{List, [], _∷_, _++_, append-assoc, append-nil}
-use Prim.Native.Nat.{ℕ, zero, suc, _+_, _*_, _-_, _≤_, _<_}
+use mathlib.Core.Path.{_≡_, ap, ap₂, sym, _∙_}
+use mathlib.Core.List.{List, [], _++_, append-assoc, append-nil}
+use Prim.Native.Nat.{ℕ, _+_, _-_, _≤_}
 use native.Mathlib.Omega.{arith}
-use lib.ListN.{length, take, drop, length-append, length-take, length-drop, take-append-drop, drop-of-length-le}
+use lib.ListN.{length, take, drop, length-append, length-drop, drop-of-length-le}
 use lib.Seq.{slice, length-slice, length-take-le, take-at, drop-at, take-append-add, take-take, take-add, take-all, drop-drop}
 use lib.Dec.{lit≤}
 use lib.Ieee.{Float}
-use Rattle.loops.specs.Part.{put, length-put, drop-slice}
+use Rattle.loops.specs.Part.{put, drop-slice}
 use Rattle.pitch_loss.specs.Tail.{Tail}
 use Rattle.pitch_loss.specs.Loss.{tailNow, tailList}
 use Rattle.noise_loss.specs.Laid.{laid}
 use Rattle.noise_loss.specs.Laid as Laid
-use Rattle.ref_decode.specs.History.{Tails, tailAt, tails, withTails}
-use Rattle.ref_decode.proofs.Parts.{TailSized, Sized}
+use Rattle.ref_decode.specs.History.{tailAt, tails, withTails}
+use Rattle.ref_decode.proofs.Parts.{TailSized}
 
 module _ {A : Type 0} where
   -- a slice, by its length

@@ -7,11 +7,11 @@ use native.Mathlib.Omega.{arith}
 use lib.ListN.{length}
 use lib.Dec.{leb, ltb, eqb}
 use lib.Ieee.{Float}
-use borrow.Author.Tests.{leb-true, leb-false, ltb-false, eqb-true, eqb-false, eq-eqb, not-false}
+use borrow.Author.Tests.{leb-false, ltb-false, eqb-true, eqb-false, eq-eqb, not-false}
 use Rattle.loops.specs.Front.{front}
 use Rattle.ref_decode.specs.State.{core, needed, noisy, searches}
 use Rattle.ref_decode.specs.Refusal.{checkSettings, checkCount, checkPcm, refusesState, refusal, refusedWith}
-use Rattle.ref_decode.specs.History.{Tails, tails, withTails, ahead}
+use Rattle.ref_decode.specs.History.{tails, withTails, ahead}
 use Rattle.ref_decode.specs.Steps.{lagOf, voice}
 use Rattle.ref_decode.specs.Loss.{Outcome, lowered, noiseSeed, noiseTails, noiseState, lagUsed, predictorUsed, fittedTo, pitchTails, pitchState, finishedState, tailsAfter, historyAfter, seedAfter, coarseAfter, sound, concealed, answered, loss}
 use Rattle.ref_decode.specs.declared.state.State.{State}

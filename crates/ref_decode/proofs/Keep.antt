@@ -1,18 +1,18 @@
 -- what an accepted loss keeps
-use mathlib.Core.Path.{_≡_, refl, ap, ap₂, sym, _∙_, subst}
-use mathlib.Core.List.{List, [], _∷_, _++_}
-use Prim.Native.Nat.{ℕ, zero, suc, _+_, _*_, _-_, _≤_, _<_}
+use mathlib.Core.Path.{_≡_, refl, ap, _∙_}
+use mathlib.Core.List.{List}
+use Prim.Native.Nat.{ℕ, zero, suc, _+_, _≤_}
 use native.Mathlib.Omega.{arith}
 use mathlib.Core.Bool.{Bool, cond, true, false, not, _&&_, _||_}
-use lib.ListN.{length, take, drop}
+use lib.ListN.{length}
 use lib.Ieee.{Float}
-use lib.Dec.{leb, ltb, eqb}
-use borrow.Author.Tests.{leb-true, leb-false, le-leb, lt-leb, eqb-true, eqb-false, eq-eqb, ne-eqb, not-false}
-use Rattle.ref_decode.specs.State.{Core, core, noisy, searches, stereo, frame}
+use lib.Dec.{leb, eqb}
+use borrow.Author.Tests.{leb-true, le-leb, eqb-true, eqb-false, eq-eqb, not-false}
+use Rattle.ref_decode.specs.State.{core, noisy, searches, stereo}
 use Rattle.ref_decode.specs.Refusal.{orElse, within, checkSettings, checkCount, checkLag, checkFilter, checkHistory, checkPcm, refusesState, refusal, Accepted}
 use Rattle.pitch_loss.specs.Tail.{Tail}
-use Rattle.ref_decode.specs.History.{Tails, tailAt, tails, withTails}
-use Rattle.ref_decode.specs.Steps.{lagOf, pitch, covered}
+use Rattle.ref_decode.specs.History.{Tails, tails}
+use Rattle.ref_decode.specs.Steps.{lagOf, pitch}
 use Rattle.ref_decode.specs.Loss.{blockTails, channelTails, tailsAfter, lagUsed, historyAfter, concealed}
 use Rattle.ref_decode.proofs.Laws.{lag-low, lag-high, pitch-new, pitch-over, block-samples}
 use Rattle.ref_decode.specs.declared.state.Settings.{Settings}

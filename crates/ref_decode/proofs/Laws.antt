@@ -1,15 +1,13 @@
 -- What the limits ask of the inner steps.
-use mathlib.Core.Path.{_≡_, refl, ap, _∙_, sym}
+use mathlib.Core.Path.{_≡_, refl}
 use mathlib.Core.Bool.{Bool, true, false, cond}
 use mathlib.Core.List.{List}
-use Prim.Native.Nat.{ℕ, zero, suc, _+_, _*_, _-_, _^_, _≤_}
+use Prim.Native.Nat.{ℕ, _+_, _*_, _-_, _≤_}
 use native.Mathlib.Omega.{arith}
-use native.Mathlib.Nat.{suc-add}
-use lib.ListN.{length, length-replicate}
+use lib.ListN.{length}
 use lib.Seq.{slice}
 use lib.Dec.{eqb}
 use lib.Ieee.{Float}
-use Rattle.plc_pitch.specs.Search.{pitchSearch}
 use Rattle.plc_pitch.specs.SearchLaws.{offset-le}
 use Rattle.plc_pitch.specs.Downsample.{pitchDownsample, pitchDownsamplePair}
 use Rattle.pitch_loss.specs.Tail.{Tail}
@@ -17,13 +15,13 @@ use Rattle.pitch_loss.specs.Overlap.{length-rolled}
 use Rattle.pitch_loss.specs.Loss.{tailAfter, length-samples, length-over}
 use Rattle.noise_loss.specs.Block.{length-block, block-seed}
 use Rattle.band_quant.specs.Draw.{draws}
-use Rattle.ref_decode.specs.State.{frame, stereo, factor, firstBin, numberOf, kindOf, samplesOf}
+use Rattle.ref_decode.specs.State.{frame, stereo, factor, firstBin, numberOf}
 use Rattle.ref_decode.specs.Refusal.{refusedWith}
 use Rattle.ref_decode.specs.Steps.{lagOf, pitch, block}
 use Rattle.pitch_loss.specs.declared.Filter.{Filter}
 use Rattle.ref_decode.specs.declared.state.Settings.{Settings}
 use Rattle.ref_decode.specs.declared.state.Verdict.{Verdict}
-use Rattle.ref_decode.specs.declared.state.Verdict.the-variants.{Pitch, Noise, BadLm, BadChannels, BadStart, BadEnd, BadDownsample, CountFull, BadLag, BadFilter, BadHistory, ShortPcm}
+use Rattle.ref_decode.specs.declared.state.Verdict.the-variants.{Pitch, Noise, BadHistory, ShortPcm}
 
 pub lag-low : (k : Settings) (h : List Float) → 102 ≤ lagOf k h
 unfolding lagOf

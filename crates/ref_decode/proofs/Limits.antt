@@ -1,27 +1,25 @@
 -- the limits on what a concealed frame can depend on: the theorem
 use mathlib.Core.Path.{_≡_, refl, ap, ap₂, sym, _∙_, subst, subst₂}
-use mathlib.Core.List.{List, [], _∷_, _++_}
-use Prim.Native.Nat.{ℕ, zero, suc, _+_, _*_, _-_, _≤_, _<_}
+use mathlib.Core.List.{List, [], _∷_}
+use Prim.Native.Nat.{ℕ, zero, suc, _+_, _*_, _-_, _≤_}
 use native.Mathlib.Omega.{arith}
 use native.Mathlib.Nat.{add-mul, mul-assoc, zero-mul, one-mul}
-use mathlib.Core.Bool.{Bool, cond, true, false, not, _&&_, _||_}
-use lib.ListN.{length, take, drop}
+use mathlib.Core.Bool.{Bool, cond, true, false, _&&_}
+use lib.ListN.{drop}
 use lib.Ieee.{Float}
-use lib.Dec.{leb, ltb, eqb, eqb·suc-zero}
+use lib.Dec.{eqb}
 use borrow.Author.Tests.{eqb-true, eqb-false, ne-eqb}
-use Rattle.band_quant.specs.Draw.{draws, draws-none, draws-add}
-use Rattle.ref_decode.specs.State.{Core, core, needed, noisy, searches, stereo, frame, factor, firstBin, numberOf, kindOf, samplesOf}
-use Rattle.ref_decode.specs.Refusal.{refusal, Accepted}
-use Rattle.pitch_loss.specs.Tail.{Tail}
+use Rattle.band_quant.specs.Draw.{draws, draws-add}
+use Rattle.ref_decode.specs.State.{Core, core, needed, noisy, searches, stereo, frame, factor, firstBin, kindOf}
+use Rattle.ref_decode.specs.Refusal.{Accepted}
 use Rattle.noise_loss.specs.Laid.{laid}
 use Rattle.deemphasis.specs.Deemphasis.{Sound}
-use Rattle.ref_decode.specs.History.{Tails, tailAt, tails, both, ahead}
+use Rattle.ref_decode.specs.History.{Tails, tails, both, ahead}
 use Rattle.ref_decode.specs.Steps.{block, voice, covered}
 use Rattle.ref_decode.specs.Loss.{Outcome, blocksSeed, blockTails, noiseSeed, noiseTails, pitchTails, tailsAfter, blockOne, blockTwo, seedAfter, coarseAfter, lagUsed, predictorUsed, historyAfter, sound, concealed, answered, loss}
 use Rattle.ref_decode.proofs.Laws.{block-draws, refused-number, accepted-number}
 use Rattle.ref_decode.specs.declared.state.Settings.{Settings}
 use Rattle.ref_decode.specs.declared.state.State.{State}
-use Rattle.ref_decode.specs.declared.state.Verdict.{Verdict}
 use Rattle.ref_decode.specs.declared.state.Verdict.the-variants.{Pitch, Noise}
 use Rattle.ref_decode.specs.Run.{run, lastState, lastHistory, noiseLoss, noiseLosses, EachCall, SameButOldest, SameAhead, Limited}
 use Rattle.ref_decode.proofs.Parts.{ahead-tails, covered-newest, tails-sized, channels-low, channels-high, start-small}

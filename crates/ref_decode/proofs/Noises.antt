@@ -1,22 +1,21 @@
 -- The noise path's steps on a history's channels.
-use mathlib.Core.Path.{_≡_, refl, ap, ap₂, sym, _∙_, subst}
-use mathlib.Core.Bool.{Bool, true, false, cond, _&&_, _||_, not}
-use mathlib.Core.List.{List, _++_}
-use Prim.Native.Nat.{ℕ, _+_, _*_, _-_, _^_, _≤_, _<_}
+use mathlib.Core.Path.{_≡_, ap, ap₂, sym, _∙_}
+use mathlib.Core.Bool.{Bool, true, cond, _&&_, not}
+use mathlib.Core.List.{List}
+use Prim.Native.Nat.{ℕ, _+_, _*_, _^_, _≤_, _<_}
 use native.Mathlib.Omega.{arith}
 use lib.ListN.{length, take, drop}
-use lib.Dec.{leb, ltb, eqb}
+use lib.Dec.{eqb}
 use lib.Ieee.{Float}
 use borrow.Author.Tests.{le-leb, lt-leb, lt-ltb, eq-eqb, ne-eqb}
 use Rattle.loops.specs.Part.{put}
 use Rattle.pitch_loss.specs.Tail.{Tail}
 use Rattle.pitch_loss.specs.Loss.{tailList}
-use Rattle.noise_loss.specs.Block.{Block, noiseBlock}
 use Rattle.noise_loss.specs.Laid as Laid
 use Rattle.noise_loss.specs.Channel.{Left, settingsFit, left, channelLeft}
 use Rattle.ref_decode.specs.State.{Core, factor, frame, stereo, noisy}
 use Rattle.ref_decode.specs.Refusal.{checkSettings}
-use Rattle.ref_decode.specs.History.{Tails, tailAt, tails, withTails}
+use Rattle.ref_decode.specs.History.{tailAt, tails, withTails}
 use Rattle.ref_decode.specs.Steps.{block, covered}
 use Rattle.ref_decode.specs.Loss.{firstBlock, secondBlock, blocksSeed, blockTails}
 use Rattle.ref_decode.specs.declared.state.Settings.{Settings}

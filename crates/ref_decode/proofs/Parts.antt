@@ -1,14 +1,14 @@
 -- A history taken apart and put together.
 use mathlib.Core.Path.{_≡_, refl, ap, ap₂, sym, _∙_}
-use mathlib.Core.List.{List, [], _∷_, _++_, append-assoc, zipWith}
-use Prim.Native.Nat.{ℕ, zero, suc, _+_, _*_, _-_, _^_, _≤_, _<_}
+use mathlib.Core.List.{List, _++_, append-assoc}
+use Prim.Native.Nat.{ℕ, suc, _+_, _-_, _≤_, _<_}
 use native.Mathlib.Omega.{arith}
-use native.Mathlib.Nat.{pow-le-pow-right, suc-add}
+use native.Mathlib.Nat.{pow-le-pow-right}
 use mathlib.Core.Bool.{Bool, cond, true, false, not, _&&_, _||_}
-use lib.ListN.{length, take, drop, length-append, length-take, length-drop}
+use lib.ListN.{length, take, drop, length-append, length-drop}
 use lib.Seq.{slice, length-slice, length-take-le, take-at, drop-at, take-all, drop-drop}
-use lib.Ieee.{Float, add, binary32}
-use lib.Dec.{leb, ltb, eqb, lit<}
+use lib.Ieee.{Float}
+use lib.Dec.{leb, ltb, lit<}
 use borrow.Author.Tests.{ltb-false, leb-true, leb-false, not-false}
 use Rattle.ref_decode.specs.State.{factor, frame, stereo}
 use Rattle.ref_decode.specs.Refusal.{checkSettings, checkDownsample, within}

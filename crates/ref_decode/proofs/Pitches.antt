@@ -1,19 +1,18 @@
 -- The pitch path's steps on a history's channels.
 use mathlib.Core.Path.{_≡_, refl, ap, ap₂, sym, _∙_, subst}
 use mathlib.Core.Bool.{Bool, true, false, cond, _&&_}
-use mathlib.Core.List.{List, [], _∷_, _++_, append-assoc, append-nil}
-use Prim.Native.Nat.{ℕ, _+_, _*_, _-_, _^_, _≤_, _<_}
+use mathlib.Core.List.{List, [], _++_, append-assoc, append-nil}
+use Prim.Native.Nat.{ℕ, _+_, _*_, _-_, _^_, _≤_}
 use native.Mathlib.Omega.{arith}
-use lib.ListN.{length, take, drop, length-append, length-take, length-drop, drop-of-length-le}
+use lib.ListN.{length, take, drop, length-append, length-drop, drop-of-length-le}
 use lib.Seq.{slice, length-take-le, take-at, take-all, take-take, drop-drop}
-use lib.Dec.{leb, eqb, lit≤}
+use lib.Dec.{eqb, lit≤}
 use lib.Ieee.{Float}
 use borrow.Author.Tests.{le-leb, eq-eqb, ne-eqb}
 use Rattle.loops.specs.Part.{put}
 use Rattle.plc_pitch.specs.Search.{pitchSearch}
 use Rattle.plc_pitch.specs.SearchLaws.{offset-le}
 use Rattle.plc_pitch.specs.Downsample.{pitchDownsample, pitchDownsamplePair}
-use Rattle.pitch_loss.specs.Tail.{Tail}
 use Rattle.pitch_loss.specs.Fit.{pitchFit, length-pitchFit}
 use Rattle.pitch_loss.specs.Loss.{tailAfter, tailNow, tailList, concealedTail, pitchLoss, accepts}
 use Rattle.pitch_loss.specs.Pair.{pitchLossPair, acceptsPair}

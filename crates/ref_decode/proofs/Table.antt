@@ -1,14 +1,14 @@
 -- The table's checks, by the tests that the code makes.
 use mathlib.Core.Path.{_≡_, refl, sym, _∙_, ap}
 use mathlib.Core.Bool.{Bool, true, false, cond, not, _||_, _&&_}
-use Prim.Native.Nat.{ℕ, zero, suc, _+_, _*_, _/_, _%_, _^_, _≤_, _<_}
+use Prim.Native.Nat.{ℕ, zero, suc, _*_, _/_, _%_, _^_, _≤_, _<_}
 use native.Mathlib.Omega.{arith}
-use lib.Dec.{leb, ltb, eqb}
+use lib.Dec.{leb, ltb}
 use native.Mathlib.Nat.{pow-le-pow-right, mod-eq-of-lt, le-trans, mul-le-mul-right, div-le-self}
 use lib.Dec.{lit<}
 use borrow.Author.Tests.{leb-true, leb-false, ltb-false, lt-ltb, le-ltb, le-leb, lt-leb, eq-eqb, ne-eqb}
 use Rattle.ref_decode.specs.Refusal.{orElse, within, checkSettings, checkDownsample, checkLag, checkFilter}
-use Rattle.ref_decode.proofs.Parts.{passed, and-true, lm-small, channels-high, downsample-passed}
+use Rattle.ref_decode.proofs.Parts.{and-true, lm-small, channels-high, downsample-passed}
 use Rattle.pitch_loss.specs.declared.Filter.{Filter}
 use Rattle.ref_decode.specs.declared.state.Settings.{Settings}
 

@@ -2,7 +2,7 @@
 use mathlib.Core.Path.{_≡_, refl, ap, ap₂, sym, _∙_, subst}
 use mathlib.Core.Bool.{Bool, true, false, cond, _&&_, _||_}
 use mathlib.Core.List.{List, [], _∷_}
-use Prim.Native.Nat.{ℕ, _+_, _*_, _-_, _/_, _%_, _^_, _≤_, _<_}
+use Prim.Native.Nat.{ℕ, _+_, _*_, _-_, _/_, _%_, _^_, _≤_}
 use native.Mathlib.Omega.{arith}
 use lib.ListN.{length, take, drop}
 use lib.Seq.{slice, length-slice}
@@ -11,10 +11,10 @@ use lib.Ieee.{Float}
 use borrow.Author.Tests.{le-leb, eq-eqb, ne-eqb, eqb-true, eqb-false, leb-true}
 use Rattle.deemphasis.specs.Deemphasis.{fits, left, deemphasisMono, deemphasisStereo}
 use Rattle.ref_decode.specs.State.{factor, frame, needed, stereo}
-use Rattle.ref_decode.specs.Refusal.{within, checkSettings, checkDownsample}
+use Rattle.ref_decode.specs.Refusal.{checkSettings, checkDownsample}
 use Rattle.ref_decode.specs.History.{both, ahead}
 use Rattle.ref_decode.specs.declared.state.Settings.{Settings}
-use Rattle.ref_decode.proofs.Parts.{and-true, frame-low, frame-high, channels-low, channels-high, downsample-passed}
+use Rattle.ref_decode.proofs.Parts.{frame-low, frame-high, channels-low, channels-high, downsample-passed}
 use Rattle.ref_decode.proofs.Table.{downsample-low}
 use Rattle.ref_decode.proofs.Channels.{slice-take}
 

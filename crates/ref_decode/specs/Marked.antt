@@ -1,10 +1,10 @@
 -- The marked examples of document 01, "Edges", as one theorem on the definitions.
 use mathlib.Core.Path.{_≡_, refl}
 use mathlib.Core.Bool.{false}
-use mathlib.Core.List.{List, [], _∷_}
+use mathlib.Core.List.{[], _∷_}
 use Prim.Native.Nat.{ℕ, _+_, _*_, _-_, _^_}
 use lib.IntN.{pos, negsuc}
-use lib.Ieee.{Float, nan, fin, binary32, ofBits, toBits, neg}
+use lib.Ieee.{nan, fin, binary32, ofBits, toBits, neg}
 use Rattle.float_bits.specs.Root.{sqrtOf}
 use Rattle.float_bits.specs.Formats.{narrow}
 use Rattle.float_bits.specs.Marked.{marked-roots, marked-rounding}
@@ -13,7 +13,7 @@ use Rattle.band_quant.specs.Noise.{noiseBand}
 use Rattle.band_quant.specs.Marked.{whole, drawn, heard}
 use Rattle.custom_mode.specs.Mode.{edges, edge}
 use Rattle.custom_mode.specs.Marked.{gainOf, gains}
-use Rattle.ref_decode.specs.State.{factor, firstBin, needed}
+use Rattle.ref_decode.specs.State.{factor, firstBin}
 use Rattle.ref_decode.specs.Refusal.{orElse, checkSettings, checkDownsample, checkCount, checkLag, checkFilter, checkHistory, refusesState}
 use Rattle.ref_decode.specs.declared.state.Settings.{Settings}
 use Rattle.ref_decode.specs.declared.state.State.{State}

@@ -1,7 +1,7 @@
 -- Names for what is read off a state.
 use mathlib.Core.Bool.{Bool, not, _||_, _&&_}
 use mathlib.Core.List.{List}
-use Prim.Native.Nat.{ℕ, _*_, _-_, _/_, _^_}
+use Prim.Native.Nat.{ℕ, _*_, _/_, _^_}
 use lib.Dec.{leb, eqb}
 use lib.Ieee.{Float}
 use Rattle.custom_mode.specs.Mode.{edge}

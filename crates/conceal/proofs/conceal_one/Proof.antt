@@ -1,91 +1,63 @@
-use mathlib.Core.Path.{_≡_, refl, ap, _∙_, sym}
-use mathlib.Core.List.{List, [], _∷_, _++_}
-use mathlib.Core.Logic.{⊎-elim}
-use Prim.Native.Nat.{ℕ, zero, suc, _+_, _≤_, _<_, _-_}
+-- `conceal::conceal_one` meets its contract: an answer fits its buffer.
+use mathlib.Core.Path.{sym}
 use native.Mathlib.Omega.{arith}
-use native.Mathlib.Numerals.{add-one}
-use lib.ListN.{length, getD, set, take, drop, length-set}
 use borrow.Author.Needs.{needs}
 use lib.Seq.{length-take-le}
 use Rattle.record.proofs.Answers.{answer-le, tail-le}
 use Rattle.conceal.proofs.conceal_one.Statement.{statement}
 use Rattle.conceal.proofs.conceal_one.Tie as tie
-use Rattle.conceal.proofs.conceal_one.Reads as reads
-use Rattle.conceal.proofs.conceal_one.Lts as lts
-use Rattle.io.proofs.read_full.Reads as read-full-reads
-use Rattle.io.proofs.write_all.Reads as write-all-reads
-use Rattle.record.proofs.answer.answer_record.Reads as answer-record-reads
-use Rattle.record.proofs.answer.answer_tail.Reads as answer-tail-reads
 
--- src/main.rt:8:43
 slice-aggregate-read-full : tie.Need-slice-aggregate-read-full
 slice-aggregate-read-full c = search needs
 
--- src/main.rt:8:9
 read-full-requires : tie.Need-read-full-requires
 read-full-requires c κs = search needs
 
--- src/main.rt:11:52
 slice-aggregate-answer-tail : tie.Need-slice-aggregate-answer-tail
 slice-aggregate-answer-tail c = search needs
 
--- src/main.rt:11:13
 answer-tail-requires : tie.Need-answer-tail-requires
 answer-tail-requires c κs = search needs
 
--- src/main.rt:12:38
 array-share-prefix-head : tie.Need-array-share-prefix-head
 array-share-prefix-head c = let l = tail-le _ _ _ (c .before .answer-tail .ensures .0) in omega (arith, c .before .answer-tail .kept .1 .0)
 
--- src/main.rt:12:38
 slice-aggregate-write-all : tie.Need-slice-aggregate-write-all
 slice-aggregate-write-all c = sym (length-take-le _ _ (let l = tail-le _ _ _ (c .before .before .answer-tail .ensures .0) in omega (arith, c .before .before .answer-tail .kept .1 .0)))
 
--- src/main.rt:12:9
 write-all-requires : tie.Need-write-all-requires
 write-all-requires c κs = search needs
 
--- src/main.rt:13:9
 returns : tie.Need-returns
 returns c = search needs
 
--- src/main.rt:15:43
 slice-aggregate-answer-record : tie.Need-slice-aggregate-answer-record
 slice-aggregate-answer-record c = search needs
 
--- src/main.rt:15:53
 slice-aggregate-answer-record-2 : tie.Need-slice-aggregate-answer-record-2
 slice-aggregate-answer-record-2 c = search needs
 
--- src/main.rt:15:9
 answer-record-requires : tie.Need-answer-record-requires
 answer-record-requires c κs = search needs
 
--- src/main.rt:16:38
 array-share-prefix-head-2 : tie.Need-array-share-prefix-head-2
 array-share-prefix-head-2 c = let l = answer-le _ _ _ (c .before .before .answer-record .ensures .0) in omega (arith, c .before .before .answer-record .kept .1 .0)
 
--- src/main.rt:16:38
 slice-aggregate-write-all-2 : tie.Need-slice-aggregate-write-all-2
 slice-aggregate-write-all-2 c = sym (length-take-le _ _ (let l = answer-le _ _ _ (c .before .before .before .answer-record .ensures .0) in omega (arith, c .before .before .before .answer-record .kept .1 .0)))
 
--- src/main.rt:16:9
 write-all-requires-2 : tie.Need-write-all-requires-2
 write-all-requires-2 c κs = search needs
 
--- src/main.rt:17:9
 returns-2 : tie.Need-returns-2
 returns-2 c = search needs
 
--- src/main.rt:19:34
 slice-aggregate-write-all-3 : tie.Need-slice-aggregate-write-all-3
 slice-aggregate-write-all-3 c = search needs
 
--- src/main.rt:19:5
 write-all-requires-3 : tie.Need-write-all-requires-3
 write-all-requires-3 c κs = search needs
 
--- src/main.rt:6:1
 returns-3 : tie.Need-returns-3
 returns-3 c = search needs
 

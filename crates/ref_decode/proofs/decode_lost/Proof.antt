@@ -1,85 +1,57 @@
-use mathlib.Core.Path.{_≡_, refl, ap, _∙_, sym}
-use mathlib.Core.List.{List, [], _∷_, _++_}
-use mathlib.Core.Logic.{⊎-elim}
-use Prim.Native.Nat.{ℕ, zero, suc, _+_, _≤_, _<_, _-_}
-use native.Mathlib.Omega.{arith}
-use native.Mathlib.Numerals.{add-one}
-use lib.ListN.{length, getD, set, take, drop, length-set}
+-- `ref_decode::decode_lost` meets its contract: refused by the first number that applies, else by noise or by pitch.
+use mathlib.Core.Path.{refl, _∙_, sym}
+use Prim.Native.Nat.{_<_}
 use borrow.Author.Needs.{needs}
 use Rattle.ref_decode.proofs.Entry.{leaves, refused-loss, whole, accepted-ok, finish-ready, noise-keeps, pitch-keeps, noise-leaves, pitch-leaves, pitch-lag, pitch-start}
 use Rattle.ref_decode.proofs.decode_lost.Statement.{statement}
 use Rattle.ref_decode.proofs.decode_lost.Tie as tie
-use Rattle.ref_decode.proofs.decode_lost.Reads as reads
-use Rattle.ref_decode.proofs.decode_lost.Lts as lts
-use Rattle.ref_decode.proofs.checks.first_refusal.Reads as first-refusal-reads
-use Rattle.ref_decode.proofs.checks.needed_samples.Reads as needed-samples-reads
-use Rattle.ref_decode.proofs.checks.refused_with.Reads as refused-with-reads
-use Rattle.ref_decode.proofs.noise.by_noise.Reads as by-noise-reads
-use Rattle.ref_decode.proofs.noise.noise_path.Reads as noise-path-reads
-use Rattle.ref_decode.proofs.pitch.pitch_path.Reads as pitch-path-reads
-use Rattle.ref_decode.proofs.voice.finished.Reads as finished-reads
 
 -- the loss count is a 32-bit word
 count-fits : (c : tie.Start) → c .args .s .«loss_count» < 4294967296
 count-fits c = search needs
 
--- src/lib.rt:24:9
 first-refusal-requires : tie.Need-first-refusal-requires
 first-refusal-requires c κs = search needs
 
--- src/lib.rt:27:22
 refused-with-requires : tie.Need-refused-with-requires
 refused-with-requires c κs = search needs
 
--- src/lib.rt:26:9
 returns : tie.Need-returns
 returns c = let s = c .before .before .before .before .before in leaves (s .args .s) (s .args .history .now) (s .args .pcm .now) _ _ _ _ _ (refused-loss (s .args .s) (s .args .history .now) (s .args .pcm .now) _ (c .before .before .first-refusal .ensures) (c .before .if1 .taken)) (c .refused-with .ensures) refl refl (whole (s .args .pcm .now))
 
--- src/lib.rt:32:9
 needed-samples-requires : tie.Need-needed-samples-requires
 needed-samples-requires c κs = let s = c .before .before .before .before .before in let z = sym (c .before .before .first-refusal .ensures) ∙ c .before .if1 .left in accepted-ok (s .args .s) (s .args .history .now) (s .args .pcm .now) z .settings
 
--- src/lib.rt:33:8
 by-noise-requires : tie.Need-by-noise-requires
 by-noise-requires c κs = search needs
 
--- src/lib.rt:34:13
 noise-path-requires : tie.Need-noise-path-requires
 noise-path-requires c κs = let s = c .before .before .before .before .before .before .before .before .before in let z = sym (c .before .before .before .before .before .before .first-refusal .ensures) ∙ c .before .before .before .before .before .if1 .left in (accepted-ok (s .args .s) (s .args .history .now) (s .args .pcm .now) z .settings, accepted-ok (s .args .s) (s .args .history .now) (s .args .pcm .now) z .history)
 
--- src/lib.rt:35:13
 finished-requires : tie.Need-finished-requires
 finished-requires c κs = let s = c .before .before .before .before .before .before .before .before .before .before .before .before .before .before in let z = sym (c .before .before .before .before .before .before .before .before .before .before .before .first-refusal .ensures) ∙ c .before .before .before .before .before .before .before .before .before .before .if1 .left in let y = c .before .before .before .before .noise-path in let k = noise-keeps (s .args .s) (y .result) (y .ensures .0) in finish-ready (s .args .s) (s .args .history .now) (s .args .pcm .now) z (y .result) (y .last .1 .0) (count-fits s) (k .0) (k .1) (y .kept .1 .0)
 
--- src/lib.rt:36:9
 same-length : tie.Need-same-length
 same-length c = search needs
 
--- src/lib.rt:36:9
 same-length-2 : tie.Need-same-length-2
 same-length-2 c = search needs
 
--- src/lib.rt:36:9
 returns-2 : tie.Need-returns-2
 returns-2 c = let s = c .before .before .before .before .before .before .before .before .before .before .before .before .before .before .before .before .before in let z = sym (c .before .before .before .before .before .before .before .before .before .before .before .before .before .before .first-refusal .ensures) ∙ c .before .before .before .before .before .before .before .before .before .before .before .before .before .if1 .left in let y = c .before .before .before .before .before .before .before .noise-path in let f = c .before .before .finished in noise-leaves (s .args .s) (s .args .history .now) (s .args .pcm .now) z (sym (c .before .before .before .before .before .before .before .before .before .before .by-noise .ensures) ∙ c .before .before .before .before .before .before .before .before .before .if2 .taken) (y .result) (f .result) (y .last .1 .0) (f .last .1 .1 .0) (c .before .before .before .before .before .before .before .before .before .before .before .needed-samples .result) (y .ensures .0) (y .ensures .1) (f .ensures .0) (f .ensures .1) (c .before .before .before .before .before .before .before .before .before .before .before .needed-samples .ensures)
 
--- src/lib.rt:41:9
 pitch-path-requires : tie.Need-pitch-path-requires
 pitch-path-requires c κs = let s = c .before .before .before .before .before .before .before .before .before in let z = sym (c .before .before .before .before .before .before .first-refusal .ensures) ∙ c .before .before .before .before .before .if1 .left in let o = accepted-ok (s .args .s) (s .args .history .now) (s .args .pcm .now) z in let e = sym (c .before .before .by-noise .ensures) ∙ c .before .if2 .left in let l = pitch-lag (s .args .s) (s .args .history .now) e o in (o .settings, o .history, o .filter, pitch-start (s .args .s) (s .args .history .now) e, l .0, l .1)
 
--- src/lib.rt:42:9
 finished-requires-2 : tie.Need-finished-requires-2
 finished-requires-2 c κs = let s = c .before .before .before .before .before .before .before .before .before .before .before .before .before .before in let z = sym (c .before .before .before .before .before .before .before .before .before .before .before .first-refusal .ensures) ∙ c .before .before .before .before .before .before .before .before .before .before .if1 .left in let y = c .before .before .before .before .pitch-path in let k = pitch-keeps (s .args .s) (y .result) (s .args .history .now) (y .ensures .0) in finish-ready (s .args .s) (s .args .history .now) (s .args .pcm .now) z (y .result) (y .last .1 .0) (count-fits s) (k .0) (k .1) (y .kept .1 .0)
 
--- src/lib.rt:18:1
 same-length-3 : tie.Need-same-length-3
 same-length-3 c = search needs
 
--- src/lib.rt:18:1
 same-length-4 : tie.Need-same-length-4
 same-length-4 c = search needs
 
--- src/lib.rt:18:1
 returns-3 : tie.Need-returns-3
 returns-3 c = let s = c .before .before .before .before .before .before .before .before .before .before .before .before .before .before .before .before .before in let z = sym (c .before .before .before .before .before .before .before .before .before .before .before .before .before .before .first-refusal .ensures) ∙ c .before .before .before .before .before .before .before .before .before .before .before .before .before .if1 .left in let y = c .before .before .before .before .before .before .before .pitch-path in let f = c .before .before .finished2 in pitch-leaves (s .args .s) (s .args .history .now) (s .args .pcm .now) z (sym (c .before .before .before .before .before .before .before .before .before .before .by-noise .ensures) ∙ c .before .before .before .before .before .before .before .before .before .if2 .left) (y .result) (f .result) (y .last .1 .0) (f .last .1 .1 .0) (c .before .before .before .before .before .before .before .before .before .before .before .needed-samples .result) (y .ensures .0) (y .ensures .1) (f .ensures .0) (f .ensures .1) (c .before .before .before .before .before .before .before .before .before .before .before .needed-samples .ensures)
 

@@ -1,39 +1,24 @@
-use mathlib.Core.Path.{_≡_, refl, ap, _∙_, sym}
-use mathlib.Core.List.{List, [], _∷_, _++_}
-use mathlib.Core.Logic.{⊎-elim}
-use Prim.Native.Nat.{ℕ, zero, suc, _+_, _≤_, _<_, _-_}
-use native.Mathlib.Omega.{arith}
-use native.Mathlib.Numerals.{add-one}
-use lib.ListN.{length, getD, set, take, drop, length-set}
+-- `record::answer::answer_record` meets its contract: other lengths leave both buffers.
 use borrow.Author.Needs.{needs}
 use Rattle.record.proofs.Answers.{stays, answers, taken, not-record, no-room}
 use Rattle.record.proofs.answer.answer_record.Statement.{statement}
 use Rattle.record.proofs.answer.answer_record.Tie as tie
-use Rattle.record.proofs.answer.answer_record.Reads as reads
-use Rattle.record.proofs.answer.answer_record.Lts as lts
-use Rattle.record.proofs.answer.answer.Reads as answer-reads
 
--- src/answer.rt:53:9
 returns : tie.Need-returns
 returns c = let s = c .before .before .before in stays (s .args .rec .now) (s .args .head .now) (not-record (s .args .rec .now) (s .args .head .now) (c .if1 .taken))
 
--- src/answer.rt:56:9
 returns-2 : tie.Need-returns-2
 returns-2 c = let s = c .before .before .before .before in stays (s .args .rec .now) (s .args .head .now) (no-room (s .args .rec .now) (s .args .head .now) (c .before .if1 .left) (c .if2 .taken))
 
--- src/answer.rt:58:5
 answer-requires : tie.Need-answer-requires
 answer-requires c κs = search needs
 
--- src/answer.rt:47:1
 same-length : tie.Need-same-length
 same-length c = search needs
 
--- src/answer.rt:47:1
 same-length-2 : tie.Need-same-length-2
 same-length-2 c = search needs
 
--- src/answer.rt:47:1
 returns-3 : tie.Need-returns-3
 returns-3 c = let s = c .before .before .before .before .before .before .before .before .before .before .before in let y = c .before .before .before .before .answer .ensures in answers (s .args .rec .now) (s .args .head .now) (taken (s .args .rec .now) (s .args .head .now) (c .before .before .before .before .before .before .before .before .if1 .left) (c .before .before .before .before .before .before .before .if2 .left)) _ _ _ (y .0) (y .1) (y .2)
 

@@ -1,18 +1,14 @@
 -- `record::bytes::floats_at` meets its contract: one float after the other.
-use mathlib.Core.Path.{_≡_, refl, ap, _∙_, sym}
-use Prim.Native.Nat.{ℕ, _+_, _*_, _-_, _/_, _%_, _≤_}
+use mathlib.Core.Path.{_≡_, ap, _∙_}
+use Prim.Native.Nat.{ℕ, _+_, _-_, _≤_}
 use native.Mathlib.Omega.{arith}
 use borrow.Author.Needs.{needs}
 use lib.ListN.{length, length-set}
 use Rattle.loops.specs.Front.{front, tab, tab-none, tab-more, tab-all}
-use lib.Ieee.{Float, nan, binary32, ofBits}
+use lib.Ieee.{nan, binary32, ofBits}
 use Rattle.record.specs.Bytes.{wordAt, floatsAt}
 use Rattle.record.proofs.bytes.floats_at.Statement.{statement}
 use Rattle.record.proofs.bytes.floats_at.Tie as tie
-use Rattle.record.proofs.bytes.floats_at.Reads as reads
-use Rattle.record.proofs.bytes.floats_at.Lts as lts
-use Rattle.float_bits.proofs.words.f32_from_word.Reads as f32-from-word-reads
-use Rattle.record.proofs.bytes.word_at.Reads as word-at-reads
 
 abbrev Inv-loop : tie.InvT-loop
 Inv-loop b i out₀ n k₀ out k = (k ≤ n) × (length out ≡ n) × (n ≡ length out₀) × (out ≡ front (tab (λ (j : ℕ). ofBits binary32 (wordAt b (i + j))) k) out₀ k)
@@ -20,47 +16,36 @@ Inv-loop b i out₀ n k₀ out k = (k ≤ n) × (length out ≡ n) × (n ≡ len
 abbrev μ-loop : tie.MeasureT-loop
 μ-loop b i out₀ n k₀ out k = n - k
 
--- src/bytes.rt:28:5
 loop-holds : tie.Need-loop-holds Inv-loop μ-loop
 loop-holds c = (search needs, search needs, search needs, tab-none _ _)
 
--- src/bytes.rt:29:62
 add-word-at : tie.Need-add-word-at Inv-loop μ-loop
 add-word-at c = search needs
 
--- src/bytes.rt:29:51
 word-at-requires : tie.Need-word-at-requires Inv-loop μ-loop
 word-at-requires c κs = search needs
 
--- src/bytes.rt:29:18
 f32-from-word-requires : tie.Need-f32-from-word-requires Inv-loop μ-loop
 f32-from-word-requires c κs = search needs
 
--- src/bytes.rt:29:9
 mul-out : tie.Need-mul-out Inv-loop μ-loop
 mul-out c = search needs
 
--- src/bytes.rt:29:9
 slice-write-out : tie.Need-slice-write-out Inv-loop μ-loop
 slice-write-out c = search needs
 
--- src/bytes.rt:28:9
 add-k : tie.Need-add-k Inv-loop μ-loop
 add-k c = search needs
 
--- src/bytes.rt:28:5
 loop-less : tie.Need-loop-less Inv-loop μ-loop
 loop-less c = search needs
 
--- src/bytes.rt:28:5
 loop-again : tie.Need-loop-again Inv-loop μ-loop
 loop-again c = let h = c .before .before .before .loop in (search needs, simp length-set (omega arith), search needs, tab-more _ nan _ _ _ (h .inv .3) _ (c .f32-from-word .ensures ∙ ap (ofBits binary32) (c .before .word-at .ensures)) (omega arith))
 
--- src/bytes.rt:23:1
 same-length : tie.Need-same-length Inv-loop μ-loop
 same-length c = omega arith
 
--- src/bytes.rt:23:1
 returns : tie.Need-returns Inv-loop μ-loop
 unfolding floatsAt
 returns c = let h = c .before .loop in tab-all _ nan _ _ (h .k) (h .inv .3) (omega arith)

@@ -1,19 +1,15 @@
 -- `record::bytes::put_floats` meets its contract: one word after the other.
-use mathlib.Core.Path.{_≡_, refl, ap, _∙_, sym}
-use Prim.Native.Nat.{ℕ, _+_, _*_, _-_, _/_, _%_, _≤_}
+use mathlib.Core.Path.{_≡_, ap, _∙_}
+use Prim.Native.Nat.{ℕ, _*_, _-_, _≤_}
 use native.Mathlib.Omega.{arith}
 use borrow.Author.Needs.{needs}
 use lib.ListN.{length, getD}
-use lib.Ieee.{Float, nan, binary32, toBits}
+use lib.Ieee.{nan, binary32, toBits}
 use Rattle.loops.specs.Front.{front}
 use Rattle.record.specs.Bytes.{bytesBy}
 use Rattle.record.proofs.Laws.{bytes-none, bytes-more, bytes-all}
 use Rattle.record.proofs.bytes.put_floats.Statement.{statement}
 use Rattle.record.proofs.bytes.put_floats.Tie as tie
-use Rattle.record.proofs.bytes.put_floats.Reads as reads
-use Rattle.record.proofs.bytes.put_floats.Lts as lts
-use Rattle.float_bits.proofs.words.f32_to_word.Reads as f32-to-word-reads
-use Rattle.record.proofs.bytes.put_word.Reads as put-word-reads
 
 abbrev Inv-loop : tie.InvT-loop
 Inv-loop b₀ xs n i₀ b i = (i ≤ n) × (length b ≡ length b₀) × (length b₀ ≡ 4 * n) × (b ≡ front (bytesBy (λ (j : ℕ). toBits binary32 (getD xs j nan)) i) b₀ (4 * i))
@@ -21,47 +17,36 @@ Inv-loop b₀ xs n i₀ b i = (i ≤ n) × (length b ≡ length b₀) × (length
 abbrev μ-loop : tie.MeasureT-loop
 μ-loop b₀ xs n i₀ b i = n - i
 
--- src/bytes.rt:61:5
 loop-holds : tie.Need-loop-holds Inv-loop μ-loop
 loop-holds c = (search needs, search needs, search needs, bytes-none _ _)
 
--- src/bytes.rt:62:21
 mul-put-word : tie.Need-mul-put-word Inv-loop μ-loop
 mul-put-word c = search needs
 
--- src/bytes.rt:62:59
 mul-f32-to-word : tie.Need-mul-f32-to-word Inv-loop μ-loop
 mul-f32-to-word c = search needs
 
--- src/bytes.rt:62:59
 shared-slice-read-f32-to-word : tie.Need-shared-slice-read-f32-to-word Inv-loop μ-loop
 shared-slice-read-f32-to-word c = search needs
 
--- src/bytes.rt:62:28
 f32-to-word-requires : tie.Need-f32-to-word-requires Inv-loop μ-loop
 f32-to-word-requires c κs = search needs
 
--- src/bytes.rt:62:9
 put-word-requires : tie.Need-put-word-requires Inv-loop μ-loop
 put-word-requires c κs = search needs
 
--- src/bytes.rt:61:9
 add-i : tie.Need-add-i Inv-loop μ-loop
 add-i c = search needs
 
--- src/bytes.rt:61:5
 loop-less : tie.Need-loop-less Inv-loop μ-loop
 loop-less c = search needs
 
--- src/bytes.rt:61:5
 loop-again : tie.Need-loop-again Inv-loop μ-loop
 loop-again c = let h = c .before .before .before .before .before .before .before .loop in (search needs, omega (arith, c .before .before .put-word .kept .0), search needs, c .before .before .put-word .ensures ∙ bytes-more _ _ _ _ _ (h .inv .3) (omega arith) (c .before .before .before .f32-to-word .ensures))
 
--- src/bytes.rt:56:1
 same-length : tie.Need-same-length Inv-loop μ-loop
 same-length c = omega arith
 
--- src/bytes.rt:56:1
 returns : tie.Need-returns Inv-loop μ-loop
 returns c = let h = c .before .loop in let e : h .i ≡ length (c .before .before .before .before .args .xs .now) = omega arith in bytes-all _ _ _ _ (h .inv .3) (omega arith) ∙ ap (bytesBy _) e
 

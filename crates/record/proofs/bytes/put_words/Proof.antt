@@ -1,18 +1,14 @@
 -- `record::bytes::put_words` meets its contract: one word after the other.
-use mathlib.Core.Path.{_≡_, refl, ap, _∙_, sym}
-use Prim.Native.Nat.{ℕ, _+_, _*_, _-_, _/_, _%_, _≤_}
+use mathlib.Core.Path.{_≡_, refl, ap, _∙_}
+use Prim.Native.Nat.{ℕ, _*_, _-_, _≤_}
 use native.Mathlib.Omega.{arith}
 use borrow.Author.Needs.{needs}
 use lib.ListN.{length, getD}
-use lib.Ieee.{Float, nan, binary32, toBits}
 use Rattle.loops.specs.Front.{front}
 use Rattle.record.specs.Bytes.{bytesBy}
 use Rattle.record.proofs.Laws.{bytes-none, bytes-more, bytes-all}
 use Rattle.record.proofs.bytes.put_words.Statement.{statement}
 use Rattle.record.proofs.bytes.put_words.Tie as tie
-use Rattle.record.proofs.bytes.put_words.Reads as reads
-use Rattle.record.proofs.bytes.put_words.Lts as lts
-use Rattle.record.proofs.bytes.put_word.Reads as put-word-reads
 
 abbrev Inv-loop : tie.InvT-loop
 Inv-loop b₀ ws n i₀ b i = (i ≤ n) × (length b ≡ length b₀) × (length b₀ ≡ 4 * n) × (b ≡ front (bytesBy (λ (j : ℕ). getD ws j 0) i) b₀ (4 * i))
@@ -20,43 +16,33 @@ Inv-loop b₀ ws n i₀ b i = (i ≤ n) × (length b ≡ length b₀) × (length
 abbrev μ-loop : tie.MeasureT-loop
 μ-loop b₀ ws n i₀ b i = n - i
 
--- src/bytes.rt:50:5
 loop-holds : tie.Need-loop-holds Inv-loop μ-loop
 loop-holds c = (search needs, search needs, search needs, bytes-none _ _)
 
--- src/bytes.rt:51:21
 mul-put-word : tie.Need-mul-put-word Inv-loop μ-loop
 mul-put-word c = search needs
 
--- src/bytes.rt:51:28
 mul-put-word-2 : tie.Need-mul-put-word-2 Inv-loop μ-loop
 mul-put-word-2 c = search needs
 
--- src/bytes.rt:51:28
 shared-slice-read-put-word : tie.Need-shared-slice-read-put-word Inv-loop μ-loop
 shared-slice-read-put-word c = search needs
 
--- src/bytes.rt:51:9
 put-word-requires : tie.Need-put-word-requires Inv-loop μ-loop
 put-word-requires c κs = search needs
 
--- src/bytes.rt:50:9
 add-i : tie.Need-add-i Inv-loop μ-loop
 add-i c = search needs
 
--- src/bytes.rt:50:5
 loop-less : tie.Need-loop-less Inv-loop μ-loop
 loop-less c = search needs
 
--- src/bytes.rt:50:5
 loop-again : tie.Need-loop-again Inv-loop μ-loop
 loop-again c = let h = c .before .before .before .before .before .before .loop in (search needs, omega (arith, c .before .before .put-word .kept .0), search needs, c .before .before .put-word .ensures ∙ bytes-more _ _ _ _ _ (h .inv .3) (omega arith) refl)
 
--- src/bytes.rt:45:1
 same-length : tie.Need-same-length Inv-loop μ-loop
 same-length c = omega arith
 
--- src/bytes.rt:45:1
 returns : tie.Need-returns Inv-loop μ-loop
 returns c = let h = c .before .loop in let e : h .i ≡ length (c .before .before .before .before .args .ws .now) = omega arith in bytes-all _ _ _ _ (h .inv .3) (omega arith) ∙ ap (bytesBy _) e
 

@@ -1,87 +1,66 @@
 -- `record::bytes::word_at` meets its contract: four bytes make a word.
-use mathlib.Core.Path.{_≡_, refl, ap, _∙_, sym}
-use Prim.Native.Nat.{ℕ, _+_, _*_, _-_, _/_, _%_, _≤_}
+use mathlib.Core.Path.{refl}
+use Prim.Native.Nat.{_+_, _*_}
 use native.Mathlib.Omega.{arith}
 use borrow.Author.Needs.{needs}
 use Rattle.record.specs.Bytes.{wordAt}
 use Rattle.record.proofs.bytes.word_at.Statement.{statement}
 use Rattle.record.proofs.bytes.word_at.Tie as tie
-use Rattle.record.proofs.bytes.word_at.Reads as reads
-use Rattle.record.proofs.bytes.word_at.Lts as lts
 
--- src/bytes.rt:14:13
 mul-k : tie.Need-mul-k
 mul-k c = search needs
 
--- src/bytes.rt:15:14
 shared-slice-read-b0 : tie.Need-shared-slice-read-b0
 shared-slice-read-b0 c = search needs
 
--- src/bytes.rt:15:14
 cast-b0 : tie.Need-cast-b0
 cast-b0 c = omega (arith, c .shared-slice-known .given (4 * c .before .args .i))
 
--- src/bytes.rt:16:16
 add-b1 : tie.Need-add-b1
 add-b1 c = search needs
 
--- src/bytes.rt:16:14
 shared-slice-read-b1 : tie.Need-shared-slice-read-b1
 shared-slice-read-b1 c = search needs
 
--- src/bytes.rt:16:14
 cast-b1 : tie.Need-cast-b1
 cast-b1 c = omega (arith, c .shared-slice-known2 .given (4 * c .before .before .args .i + 1))
 
--- src/bytes.rt:17:16
 add-b2 : tie.Need-add-b2
 add-b2 c = search needs
 
--- src/bytes.rt:17:14
 shared-slice-read-b2 : tie.Need-shared-slice-read-b2
 shared-slice-read-b2 c = search needs
 
--- src/bytes.rt:17:14
 cast-b2 : tie.Need-cast-b2
 cast-b2 c = omega (arith, c .shared-slice-known3 .given (4 * c .before .before .before .args .i + 2))
 
--- src/bytes.rt:18:16
 add-b3 : tie.Need-add-b3
 add-b3 c = search needs
 
--- src/bytes.rt:18:14
 shared-slice-read-b3 : tie.Need-shared-slice-read-b3
 shared-slice-read-b3 c = search needs
 
--- src/bytes.rt:18:14
 cast-b3 : tie.Need-cast-b3
 cast-b3 c = omega (arith, c .shared-slice-known4 .given (4 * c .before .before .before .before .args .i + 3))
 
--- src/bytes.rt:19:10
 mul-result : tie.Need-mul-result
 mul-result c = omega (arith, c .before .before .before .shared-slice-known .given (4 * c .before .before .before .before .args .i), c .before .before .shared-slice-known2 .given (4 * c .before .before .before .before .args .i + 1), c .before .shared-slice-known3 .given (4 * c .before .before .before .before .args .i + 2), c .shared-slice-known4 .given (4 * c .before .before .before .before .args .i + 3))
 
--- src/bytes.rt:19:5
 add-result : tie.Need-add-result
 add-result c = omega (arith, c .before .before .before .shared-slice-known .given (4 * c .before .before .before .before .args .i), c .before .before .shared-slice-known2 .given (4 * c .before .before .before .before .args .i + 1), c .before .shared-slice-known3 .given (4 * c .before .before .before .before .args .i + 2), c .shared-slice-known4 .given (4 * c .before .before .before .before .args .i + 3))
 
--- src/bytes.rt:19:21
 mul-result-2 : tie.Need-mul-result-2
 mul-result-2 c = omega (arith, c .before .before .before .shared-slice-known .given (4 * c .before .before .before .before .args .i), c .before .before .shared-slice-known2 .given (4 * c .before .before .before .before .args .i + 1), c .before .shared-slice-known3 .given (4 * c .before .before .before .before .args .i + 2), c .shared-slice-known4 .given (4 * c .before .before .before .before .args .i + 3))
 
--- src/bytes.rt:19:5
 add-result-2 : tie.Need-add-result-2
 add-result-2 c = omega (arith, c .before .before .before .shared-slice-known .given (4 * c .before .before .before .before .args .i), c .before .before .shared-slice-known2 .given (4 * c .before .before .before .before .args .i + 1), c .before .shared-slice-known3 .given (4 * c .before .before .before .before .args .i + 2), c .shared-slice-known4 .given (4 * c .before .before .before .before .args .i + 3))
 
--- src/bytes.rt:19:34
 mul-result-3 : tie.Need-mul-result-3
 mul-result-3 c = omega (arith, c .before .before .before .shared-slice-known .given (4 * c .before .before .before .before .args .i), c .before .before .shared-slice-known2 .given (4 * c .before .before .before .before .args .i + 1), c .before .shared-slice-known3 .given (4 * c .before .before .before .before .args .i + 2), c .shared-slice-known4 .given (4 * c .before .before .before .before .args .i + 3))
 
--- src/bytes.rt:19:5
 add-result-3 : tie.Need-add-result-3
 add-result-3 c = omega (arith, c .before .before .before .shared-slice-known .given (4 * c .before .before .before .before .args .i), c .before .before .shared-slice-known2 .given (4 * c .before .before .before .before .args .i + 1), c .before .shared-slice-known3 .given (4 * c .before .before .before .before .args .i + 2), c .shared-slice-known4 .given (4 * c .before .before .before .before .args .i + 3))
 
--- src/bytes.rt:10:1
 returns : tie.Need-returns
 unfolding wordAt
 returns c = refl

@@ -1,41 +1,29 @@
-use mathlib.Core.Path.{_≡_, refl, ap, _∙_, sym}
-use mathlib.Core.List.{List, [], _∷_, _++_}
-use mathlib.Core.Logic.{⊎-elim}
-use Prim.Native.Nat.{ℕ, zero, suc, _+_, _≤_, _<_, _-_}
+-- `record::fields::put_memories` meets its contract: two parts, one behind the other.
+use mathlib.Core.Path.{_≡_, ap, _∙_}
 use native.Mathlib.Omega.{arith}
-use native.Mathlib.Numerals.{add-one}
-use lib.ListN.{length, getD, set, take, drop, length-set}
+use lib.ListN.{length}
 use borrow.Author.Needs.{needs}
 use Rattle.record.specs.Bytes.{floatsBytes}
 use Rattle.record.proofs.Laws.{two-parts, length-bytes}
 use Prim.Native.Nat.{_*_}
 use Rattle.record.proofs.fields.put_memories.Statement.{statement}
 use Rattle.record.proofs.fields.put_memories.Tie as tie
-use Rattle.record.proofs.fields.put_memories.Reads as reads
-use Rattle.record.proofs.fields.put_memories.Lts as lts
-use Rattle.record.proofs.bytes.put_floats_at.Reads as put-floats-at-reads
 
--- src/fields.rt:114:41
 slice-aggregate-put-floats-at : tie.Need-slice-aggregate-put-floats-at
 slice-aggregate-put-floats-at c = search needs
 
--- src/fields.rt:114:5
 put-floats-at-requires : tie.Need-put-floats-at-requires
 put-floats-at-requires c κs = search needs
 
--- src/fields.rt:115:41
 slice-aggregate-put-floats-at-2 : tie.Need-slice-aggregate-put-floats-at-2
 slice-aggregate-put-floats-at-2 c = search needs
 
--- src/fields.rt:115:5
 put-floats-at-requires-2 : tie.Need-put-floats-at-requires-2
 put-floats-at-requires-2 c κs = search needs
 
--- src/fields.rt:110:1
 same-length : tie.Need-same-length
 same-length c = search needs
 
--- src/fields.rt:110:1
 returns : tie.Need-returns
 returns c = let a = c .before .before .before .before .before .before .before .before .before .before .before .args in let l : length (a .t2) ≡ 2 = search needs in let k : length (a .t3) ≡ 48 = search needs in two-parts 444 8 192 (4 * length (a .t2)) (4 * length (a .t3)) (floatsBytes (a .t2)) (floatsBytes (a .t3)) (a .b .now) _ _ (c .before .before .before .before .before .before .before .put-floats-at .ensures) (c .before .before .put-floats-at2 .ensures) (omega arith) (omega arith) (length-bytes _ _ ∙ ap (λ z. 4 * z) l) (omega arith)
 

@@ -1,17 +1,13 @@
 -- `ref_decode::checks::check_count` meets its contract: each return is what the tests on the way to it say.
-use borrow.Author.Tests.{lt-ltb, le-ltb, le-leb, lt-leb, eq-eqb, ne-eqb}
-use Rattle.ref_decode.specs.Refusal.{checkCount, checkHistory, checkDownsample, checkLag, checkFilter, checkSettings}
+use borrow.Author.Tests.{eq-eqb, ne-eqb}
+use Rattle.ref_decode.specs.Refusal.{checkCount}
 use Rattle.ref_decode.proofs.checks.check_count.Statement.{statement}
 use Rattle.ref_decode.proofs.checks.check_count.Tie as tie
-use Rattle.ref_decode.proofs.checks.check_count.Reads as reads
-use Rattle.ref_decode.proofs.checks.check_count.Lts as lts
 
--- src/checks.rt:49:1
 returns : tie.Need-returns
 unfolding checkCount
 returns c = simp (eq-eqb _ _ (c .if1 .taken))
 
--- src/checks.rt:49:1
 returns-2 : tie.Need-returns-2
 unfolding checkCount
 returns-2 c = simp (ne-eqb _ _ (c .if1 .left))

@@ -3,22 +3,16 @@ use native.Mathlib.Omega.{arith}
 use Rattle.ref_decode.proofs.Table.{downsample-within, downsample-none, downsample-six, downsample-other}
 use Rattle.ref_decode.proofs.checks.check_downsample.Statement.{statement}
 use Rattle.ref_decode.proofs.checks.check_downsample.Tie as tie
-use Rattle.ref_decode.proofs.checks.check_downsample.Reads as reads
-use Rattle.ref_decode.proofs.checks.check_downsample.Lts as lts
 
--- src/checks.rt:40:9
 returns : tie.Need-returns
 returns c = downsample-none _ (omega arith)
 
--- src/checks.rt:43:9
 returns-2 : tie.Need-returns-2
 returns-2 c = downsample-within _ (omega arith) (omega arith)
 
--- src/checks.rt:36:1
 returns-3 : tie.Need-returns-3
 returns-3 c = downsample-six _ (c .if3 .taken)
 
--- src/checks.rt:36:1
 returns-4 : tie.Need-returns-4
 returns-4 c = downsample-other _ (omega arith) (c .if3 .left)
 

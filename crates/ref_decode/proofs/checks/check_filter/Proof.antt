@@ -3,22 +3,16 @@ use native.Mathlib.Omega.{arith}
 use Rattle.ref_decode.proofs.Table.{filter-under, filter-over, filter-tapset, filter-good}
 use Rattle.ref_decode.proofs.checks.check_filter.Statement.{statement}
 use Rattle.ref_decode.proofs.checks.check_filter.Tie as tie
-use Rattle.ref_decode.proofs.checks.check_filter.Reads as reads
-use Rattle.ref_decode.proofs.checks.check_filter.Lts as lts
 
--- src/checks.rt:79:9
 returns : tie.Need-returns
 returns c = filter-under _ (omega arith)
 
--- src/checks.rt:82:9
 returns-2 : tie.Need-returns-2
 returns-2 c = filter-over _ (omega arith)
 
--- src/checks.rt:75:1
 returns-3 : tie.Need-returns-3
 returns-3 c = filter-tapset _ (omega arith) (omega arith) (omega arith)
 
--- src/checks.rt:75:1
 returns-4 : tie.Need-returns-4
 returns-4 c = filter-good _ (omega arith) (omega arith) (omega arith)
 

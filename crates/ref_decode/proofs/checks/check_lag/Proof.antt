@@ -3,30 +3,22 @@ use native.Mathlib.Omega.{arith}
 use Rattle.ref_decode.proofs.Table.{lag-other-start, lag-count-under, lag-count-over, lag-under, lag-over, lag-within}
 use Rattle.ref_decode.proofs.checks.check_lag.Statement.{statement}
 use Rattle.ref_decode.proofs.checks.check_lag.Tie as tie
-use Rattle.ref_decode.proofs.checks.check_lag.Reads as reads
-use Rattle.ref_decode.proofs.checks.check_lag.Lts as lts
 
--- src/checks.rt:60:9
 returns : tie.Need-returns
 returns c = lag-other-start _ _ _ (c .if1 .taken)
 
--- src/checks.rt:63:9
 returns-2 : tie.Need-returns-2
 returns-2 c = lag-count-under _ _ _ (omega arith) (omega arith)
 
--- src/checks.rt:66:9
 returns-3 : tie.Need-returns-3
 returns-3 c = lag-count-over _ _ _ (omega arith) (omega arith)
 
--- src/checks.rt:69:9
 returns-4 : tie.Need-returns-4
 returns-4 c = lag-under _ _ _ (omega arith) (omega arith) (omega arith) (omega arith)
 
--- src/checks.rt:56:1
 returns-5 : tie.Need-returns-5
 returns-5 c = lag-over _ _ _ (omega arith) (omega arith) (omega arith) (omega arith)
 
--- src/checks.rt:56:1
 returns-6 : tie.Need-returns-6
 returns-6 c = lag-within _ _ _ (omega arith) (omega arith) (omega arith) (omega arith) (omega arith)
 

@@ -1,5 +1,4 @@
 -- `ref_decode::checks::check_pcm` meets its contract: by what is needed.
-use mathlib.Core.Path.{_≡_, refl, ap, _∙_, sym}
 use native.Mathlib.Omega.{arith}
 use borrow.Author.Needs.{needs}
 use borrow.Author.Tests.{lt-ltb, le-ltb}
@@ -7,20 +6,14 @@ use Rattle.ref_decode.specs.Refusal.{checkPcm}
 use Rattle.ref_decode.specs.State.{needed}
 use Rattle.ref_decode.proofs.checks.check_pcm.Statement.{statement}
 use Rattle.ref_decode.proofs.checks.check_pcm.Tie as tie
-use Rattle.ref_decode.proofs.checks.check_pcm.Reads as reads
-use Rattle.ref_decode.proofs.checks.check_pcm.Lts as lts
-use Rattle.ref_decode.proofs.checks.needed_samples.Reads as needed-samples-reads
 
--- src/checks.rt:121:12
 needed-samples-requires : tie.Need-needed-samples-requires
 needed-samples-requires c κs = search needs
 
--- src/checks.rt:117:1
 returns : tie.Need-returns
 unfolding checkPcm
 returns c = let k = c .before .before .args .k in simp (lt-ltb (c .before .before .args .p) (needed k) (omega arith))
 
--- src/checks.rt:117:1
 returns-2 : tie.Need-returns-2
 unfolding checkPcm
 returns-2 c = let k = c .before .before .args .k in simp (le-ltb (c .before .before .args .p) (needed k) (omega arith))

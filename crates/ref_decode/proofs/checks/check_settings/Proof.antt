@@ -4,39 +4,28 @@ use borrow.Author.Needs.{needs}
 use Rattle.ref_decode.proofs.Table.{settings-lm, settings-channels-under, settings-channels-over, settings-start, settings-end-under, settings-end-over, settings-rest}
 use Rattle.ref_decode.proofs.checks.check_settings.Statement.{statement}
 use Rattle.ref_decode.proofs.checks.check_settings.Tie as tie
-use Rattle.ref_decode.proofs.checks.check_settings.Reads as reads
-use Rattle.ref_decode.proofs.checks.check_settings.Lts as lts
-use Rattle.ref_decode.proofs.checks.check_downsample.Reads as check-downsample-reads
 
--- src/checks.rt:15:9
 returns : tie.Need-returns
 returns c = settings-lm _ (omega arith)
 
--- src/checks.rt:18:9
 returns-2 : tie.Need-returns-2
 returns-2 c = settings-channels-under _ (omega arith) (omega arith)
 
--- src/checks.rt:21:9
 returns-3 : tie.Need-returns-3
 returns-3 c = settings-channels-over _ (omega arith) (omega arith)
 
--- src/checks.rt:24:9
 returns-4 : tie.Need-returns-4
 returns-4 c = settings-start _ (omega arith) (omega arith) (omega arith) (omega arith)
 
--- src/checks.rt:27:9
 returns-5 : tie.Need-returns-5
 returns-5 c = settings-end-under _ (omega arith) (omega arith) (omega arith) (omega arith) (omega arith)
 
--- src/checks.rt:30:9
 returns-6 : tie.Need-returns-6
 returns-6 c = settings-end-over _ (omega arith) (omega arith) (omega arith) (omega arith) (omega arith) (omega arith)
 
--- src/checks.rt:32:5
 check-downsample-requires : tie.Need-check-downsample-requires
 check-downsample-requires c κs = search needs
 
--- src/checks.rt:11:1
 returns-7 : tie.Need-returns-7
 returns-7 c = settings-rest _ (omega arith) (omega arith) (omega arith) _ (c .check-downsample .ensures) (omega arith) (omega arith) (omega arith)
 

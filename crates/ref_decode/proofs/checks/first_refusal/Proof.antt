@@ -1,70 +1,50 @@
 -- `ref_decode::checks::first_refusal` meets its contract: the first check that does not pass is the answer.
-use mathlib.Core.Path.{_≡_, refl, ap, _∙_, sym}
+use mathlib.Core.Path.{_∙_}
 use native.Mathlib.Omega.{arith}
 use borrow.Author.Needs.{needs}
 use Rattle.ref_decode.proofs.Table.{first-a, first-b, first-c, first-d, first-e, first-f}
 use Rattle.ref_decode.specs.Refusal.{refusal, refusesState}
 use Rattle.ref_decode.proofs.checks.first_refusal.Statement.{statement}
 use Rattle.ref_decode.proofs.checks.first_refusal.Tie as tie
-use Rattle.ref_decode.proofs.checks.first_refusal.Reads as reads
-use Rattle.ref_decode.proofs.checks.first_refusal.Lts as lts
-use Rattle.ref_decode.proofs.checks.check_count.Reads as check-count-reads
-use Rattle.ref_decode.proofs.checks.check_filter.Reads as check-filter-reads
-use Rattle.ref_decode.proofs.checks.check_history.Reads as check-history-reads
-use Rattle.ref_decode.proofs.checks.check_lag.Reads as check-lag-reads
-use Rattle.ref_decode.proofs.checks.check_pcm.Reads as check-pcm-reads
-use Rattle.ref_decode.proofs.checks.check_settings.Reads as check-settings-reads
 
--- src/checks.rt:129:9
 check-settings-requires : tie.Need-check-settings-requires
 check-settings-requires c κs = search needs
 
--- src/checks.rt:131:9
 returns : tie.Need-returns
 unfolding refusal refusesState
 returns c = c .before .check-settings .ensures ∙ first-a _ _ _ _ _ _ (λ z. c .if1 .taken (c .before .check-settings .ensures ∙ z))
 
--- src/checks.rt:133:9
 check-count-requires : tie.Need-check-count-requires
 check-count-requires c κs = search needs
 
--- src/checks.rt:135:9
 returns-2 : tie.Need-returns-2
 unfolding refusal refusesState
 returns-2 c = c .before .check-count .ensures ∙ first-b _ _ _ _ _ _ (omega arith) (λ z. c .if2 .taken (c .before .check-count .ensures ∙ z))
 
--- src/checks.rt:137:9
 check-lag-requires : tie.Need-check-lag-requires
 check-lag-requires c κs = search needs
 
--- src/checks.rt:139:9
 returns-3 : tie.Need-returns-3
 unfolding refusal refusesState
 returns-3 c = c .before .check-lag .ensures ∙ first-c _ _ _ _ _ _ (omega arith) (omega arith) (λ z. c .if3 .taken (c .before .check-lag .ensures ∙ z))
 
--- src/checks.rt:142:9
 check-filter-requires : tie.Need-check-filter-requires
 check-filter-requires c κs = search needs
 
--- src/checks.rt:144:9
 returns-4 : tie.Need-returns-4
 unfolding refusal refusesState
 returns-4 c = c .before .check-filter .ensures ∙ first-d _ _ _ _ _ _ (omega arith) (omega arith) (omega arith) (λ z. c .if4 .taken (c .before .check-filter .ensures ∙ z))
 
--- src/checks.rt:146:9
 check-history-requires : tie.Need-check-history-requires
 check-history-requires c κs = search needs
 
--- src/checks.rt:148:9
 returns-5 : tie.Need-returns-5
 unfolding refusal refusesState
 returns-5 c = c .before .check-history .ensures ∙ first-e _ _ _ _ _ _ (omega arith) (omega arith) (omega arith) (omega arith) (λ z. c .if5 .taken (c .before .check-history .ensures ∙ z))
 
--- src/checks.rt:150:5
 check-pcm-requires : tie.Need-check-pcm-requires
 check-pcm-requires c κs = omega arith
 
--- src/checks.rt:125:1
 returns-6 : tie.Need-returns-6
 unfolding refusal refusesState
 returns-6 c = c .check-pcm .ensures ∙ first-f _ _ _ _ _ _ (omega arith) (omega arith) (omega arith) (omega arith) (omega arith)

@@ -1,38 +1,29 @@
 -- `ref_decode::checks::needed_samples` meets its contract: accepted settings have a frame up to 960 and a divisor above 0.
-use mathlib.Core.Path.{_≡_, refl, ap, _∙_, sym}
+use mathlib.Core.Path.{ap}
 use native.Mathlib.Omega.{arith}
 use Prim.Native.Nat.{_*_, _/_}
 use borrow.Author.Needs.{needs}
-use Rattle.ref_decode.proofs.Table.{frame-most, downsample-low, needed-small}
+use Rattle.ref_decode.proofs.Table.{downsample-low, needed-small}
 use Rattle.ref_decode.proofs.Parts.{lm-small}
 use Rattle.ref_decode.specs.State.{needed, frame, factor}
 use Rattle.ref_decode.proofs.checks.needed_samples.Statement.{statement}
 use Rattle.ref_decode.proofs.checks.needed_samples.Tie as tie
-use Rattle.ref_decode.proofs.checks.needed_samples.Reads as reads
-use Rattle.ref_decode.proofs.checks.needed_samples.Lts as lts
-use Rattle.ref_decode.proofs.checks.frame_size.Reads as frame-size-reads
 
--- src/checks.rt:110:9
 frame-size-requires : tie.Need-frame-size-requires
 frame-size-requires c κs = lm-small _ (c .pre)
 
--- src/checks.rt:111:13
 cast-d : tie.Need-cast-d
 cast-d c = search needs
 
--- src/checks.rt:112:23
 div-per-channel : tie.Need-div-per-channel
 div-per-channel c = downsample-low _ (c .before .before .pre)
 
--- src/checks.rt:113:6
 cast-result : tie.Need-cast-result
 cast-result c = search needs
 
--- src/checks.rt:113:5
 mul-result : tie.Need-mul-result
 mul-result c = let h = needed-small (c .before .before .before .args .k) (c .before .before .before .pre) (c .before .before .frame-size .result) (c .before .before .frame-size .ensures) in omega arith
 
--- src/checks.rt:106:1
 returns : tie.Need-returns
 unfolding needed frame factor
 returns c = ap (λ z. c .before .before .before .args .k .channels * (z / c .before .before .before .args .k .downsample)) (c .before .before .frame-size .ensures)

@@ -1,101 +1,70 @@
-use mathlib.Core.Path.{_≡_, refl, ap, _∙_, sym}
-use mathlib.Core.List.{List, [], _∷_, _++_}
-use mathlib.Core.Logic.{⊎-elim}
-use Prim.Native.Nat.{ℕ, zero, suc, _+_, _≤_, _<_, _-_}
-use native.Mathlib.Omega.{arith}
-use native.Mathlib.Numerals.{add-one}
-use lib.ListN.{length, getD, set, take, drop, length-set}
+-- `ref_decode::pitch::find_lag` meets its contract: the lengths fit, so neither step refuses.
+use mathlib.Core.Path.{refl}
 use borrow.Author.Needs.{needs}
 use Rattle.ref_decode.proofs.Pitches.{search-most, lag-mono, lag-stereo}
 use Rattle.ref_decode.proofs.pitch.find_lag.Statement.{statement}
 use Rattle.ref_decode.proofs.pitch.find_lag.Tie as tie
-use Rattle.ref_decode.proofs.pitch.find_lag.Reads as reads
-use Rattle.ref_decode.proofs.pitch.find_lag.Lts as lts
-use Rattle.plc_pitch.proofs.downsample.pitch_downsample.Reads as pitch-downsample-reads
-use Rattle.plc_pitch.proofs.downsample.pitch_downsample_pair.Reads as pitch-downsample-pair-reads
-use Rattle.plc_pitch.proofs.search.pitch_search.Reads as pitch-search-reads
 
--- src/pitch.rt:30:43
 sub-pitch-downsample-pair : tie.Need-sub-pitch-downsample-pair
 sub-pitch-downsample-pair c = search needs
 
--- src/pitch.rt:30:43
 part-pitch-downsample-pair-start : tie.Need-part-pitch-downsample-pair-start
 part-pitch-downsample-pair-start c = search needs
 
--- src/pitch.rt:30:43
 part-pitch-downsample-pair-end : tie.Need-part-pitch-downsample-pair-end
 part-pitch-downsample-pair-end c = search needs
 
--- src/pitch.rt:30:62
 sub-pitch-downsample-pair-2 : tie.Need-sub-pitch-downsample-pair-2
 sub-pitch-downsample-pair-2 c = search needs
 
--- src/pitch.rt:30:62
 part-pitch-downsample-pair-start-2 : tie.Need-part-pitch-downsample-pair-start-2
 part-pitch-downsample-pair-start-2 c = search needs
 
--- src/pitch.rt:30:62
 part-pitch-downsample-pair-end-2 : tie.Need-part-pitch-downsample-pair-end-2
 part-pitch-downsample-pair-end-2 c = search needs
 
--- src/pitch.rt:30:84
 slice-aggregate-pitch-downsample-pair : tie.Need-slice-aggregate-pitch-downsample-pair
 slice-aggregate-pitch-downsample-pair c = search needs
 
--- src/pitch.rt:30:13
 pitch-downsample-pair-requires : tie.Need-pitch-downsample-pair-requires
 pitch-downsample-pair-requires c κs = search needs
 
--- src/pitch.rt:31:23
 pitch-search-requires : tie.Need-pitch-search-requires
 pitch-search-requires c κs = search needs
 
--- src/pitch.rt:31:17
 sub-result : tie.Need-sub-result
 sub-result c = search-most _ _ (c .pitch-search .ensures)
 
--- src/pitch.rt:31:16
 cast-result : tie.Need-cast-result
 cast-result c = search needs
 
--- src/pitch.rt:31:9
 returns : tie.Need-returns
 returns c = let s = c .before .before .before .before .before .before .before .before .before .before in lag-stereo (s .args .k) (s .args .history .now) (s .pre) _ (c .before .before .before .before .before .before .before .if1 .taken) _ _ _ refl (c .before .before .before .pitch-downsample-pair .ensures .0) (c .before .before .before .pitch-downsample-pair .ensures .1) (c .pitch-search .ensures)
 
--- src/pitch.rt:33:34
 sub-pitch-downsample : tie.Need-sub-pitch-downsample
 sub-pitch-downsample c = search needs
 
--- src/pitch.rt:33:34
 part-pitch-downsample-start : tie.Need-part-pitch-downsample-start
 part-pitch-downsample-start c = search needs
 
--- src/pitch.rt:33:34
 part-pitch-downsample-end : tie.Need-part-pitch-downsample-end
 part-pitch-downsample-end c = search needs
 
--- src/pitch.rt:33:53
 slice-aggregate-pitch-downsample : tie.Need-slice-aggregate-pitch-downsample
 slice-aggregate-pitch-downsample c = search needs
 
--- src/pitch.rt:33:9
 pitch-downsample-requires : tie.Need-pitch-downsample-requires
 pitch-downsample-requires c κs = search needs
 
--- src/pitch.rt:34:12
 pitch-search-requires-2 : tie.Need-pitch-search-requires-2
 pitch-search-requires-2 c κs = search needs
 
--- src/pitch.rt:34:6
 sub-result-2 : tie.Need-sub-result-2
 sub-result-2 c = search-most _ _ (c .pitch-search2 .ensures)
 
--- src/pitch.rt:34:5
 cast-result-2 : tie.Need-cast-result-2
 cast-result-2 c = search needs
 
--- src/pitch.rt:24:1
 returns-2 : tie.Need-returns-2
 returns-2 c = let s = c .before .before .before .before .before .before .before .before .before in lag-mono (s .args .k) (s .args .history .now) (s .pre) _ (c .before .before .before .before .before .before .if1 .left) _ _ _ refl (c .before .before .before .pitch-downsample .ensures .0) (c .before .before .before .pitch-downsample .ensures .1) (c .pitch-search2 .ensures)
 

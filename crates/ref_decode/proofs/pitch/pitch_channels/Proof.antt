@@ -1,60 +1,42 @@
-use mathlib.Core.Path.{_≡_, refl, ap, _∙_, sym}
-use mathlib.Core.List.{List, [], _∷_, _++_}
-use mathlib.Core.Logic.{⊎-elim}
-use Prim.Native.Nat.{ℕ, zero, suc, _+_, _≤_, _<_, _-_}
-use native.Mathlib.Omega.{arith}
-use native.Mathlib.Numerals.{add-one}
-use lib.ListN.{length, getD, set, take, drop, length-set}
+-- `ref_decode::pitch::pitch_channels` meets its contract: one tail written in mono, two in stereo.
+use mathlib.Core.Path.{_≡_}
+use lib.ListN.{length}
 use borrow.Author.Needs.{needs}
 use Rattle.ref_decode.proofs.Pitches.{pitch-mono, pitch-pair}
 use Rattle.ref_decode.proofs.pitch.pitch_channels.Statement.{statement}
 use Rattle.ref_decode.proofs.pitch.pitch_channels.Tie as tie
-use Rattle.ref_decode.proofs.pitch.pitch_channels.Reads as reads
-use Rattle.ref_decode.proofs.pitch.pitch_channels.Lts as lts
-use Rattle.pitch_loss.proofs.pair.pitch_loss_pair.Reads as pitch-loss-pair-reads
-use Rattle.ref_decode.proofs.pitch.pitch_channel.Reads as pitch-channel-reads
 
 -- what is known of the coefficients where the function begins
 coefficients : (c : tie.Start) → length (c .args .t5) ≡ 48
 coefficients c = search needs
 
--- src/pitch.rt:108:62
 slice-aggregate-pitch-loss-pair : tie.Need-slice-aggregate-pitch-loss-pair
 slice-aggregate-pitch-loss-pair c = search needs
 
--- src/pitch.rt:108:13
 pitch-loss-pair-requires : tie.Need-pitch-loss-pair-requires
 pitch-loss-pair-requires c κs = search needs
 
--- src/pitch.rt:109:9
 same-length : tie.Need-same-length
 same-length c = search needs
 
--- src/pitch.rt:109:9
 returns : tie.Need-returns
 returns c = let s = c .before .before .before .before .before .before .before .before in pitch-pair (s .args .k) (s .pre .0) (s .args .lag) (s .pre .2) (s .pre .3) (s .args .filter) (s .pre .4) (s .args .history .now) (s .pre .1) (s .args .first) (s .args .t5) (c .before .before .before .before .before .if1 .taken) (coefficients s) _ (c .before .before .pitch-loss-pair .ensures .1)
 
--- src/pitch.rt:111:46
 sub-pitch-channel : tie.Need-sub-pitch-channel
 sub-pitch-channel c = search needs
 
--- src/pitch.rt:111:46
 part-pitch-channel-start : tie.Need-part-pitch-channel-start
 part-pitch-channel-start c = search needs
 
--- src/pitch.rt:111:46
 part-pitch-channel-end : tie.Need-part-pitch-channel-end
 part-pitch-channel-end c = search needs
 
--- src/pitch.rt:111:5
 pitch-channel-requires : tie.Need-pitch-channel-requires
 pitch-channel-requires c κs = search needs
 
--- src/pitch.rt:95:1
 same-length-2 : tie.Need-same-length-2
 same-length-2 c = search needs
 
--- src/pitch.rt:95:1
 returns-2 : tie.Need-returns-2
 returns-2 c = let s = c .before .before .before .before .before .before .before .before .before in pitch-mono (s .args .k) (s .pre .0) (s .args .lag) (s .pre .2) (s .pre .3) (s .args .filter) (s .pre .4) (s .args .history .now) (s .pre .1) (s .args .first) (s .args .t5) (c .before .before .before .before .before .before .if1 .left) _ (c .before .before .pitch-channel .ensures)
 
