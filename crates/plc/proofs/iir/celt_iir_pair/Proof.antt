@@ -47,29 +47,29 @@ loop-holds c = let a = c .before .before .before .before .before .before .before
       filtered-none (a .den-b .now) (a .mem-b .now) (a .b .now) (q .last .0) (search needs) (q .ensures),
     )
 
-slice-aggregate-less-taps : tie.Need-slice-aggregate-less-taps Inv-loop μ-loop
-slice-aggregate-less-taps c = search needs
+slice-aggregate-pair-taps : tie.Need-slice-aggregate-pair-taps Inv-loop μ-loop
+slice-aggregate-pair-taps c = search needs
 
-mul-less-taps : tie.Need-mul-less-taps Inv-loop μ-loop
-mul-less-taps c = search needs
+mul-pair-taps : tie.Need-mul-pair-taps Inv-loop μ-loop
+mul-pair-taps c = search needs
 
-slice-read-less-taps : tie.Need-slice-read-less-taps Inv-loop μ-loop
-slice-read-less-taps c = search needs
+slice-read-pair-taps : tie.Need-slice-read-pair-taps Inv-loop μ-loop
+slice-read-pair-taps c = search needs
 
-less-taps-requires : tie.Need-less-taps-requires Inv-loop μ-loop
-less-taps-requires c κs = search needs
+pair-taps-requires : tie.Need-pair-taps-requires Inv-loop μ-loop
+pair-taps-requires c κs = search needs
 
-slice-aggregate-less-taps-2 : tie.Need-slice-aggregate-less-taps-2 Inv-loop μ-loop
-slice-aggregate-less-taps-2 c = search needs
+slice-aggregate-pair-taps-2 : tie.Need-slice-aggregate-pair-taps-2 Inv-loop μ-loop
+slice-aggregate-pair-taps-2 c = search needs
 
-mul-less-taps-2 : tie.Need-mul-less-taps-2 Inv-loop μ-loop
-mul-less-taps-2 c = search needs
+mul-pair-taps-2 : tie.Need-mul-pair-taps-2 Inv-loop μ-loop
+mul-pair-taps-2 c = search needs
 
-slice-read-less-taps-2 : tie.Need-slice-read-less-taps-2 Inv-loop μ-loop
-slice-read-less-taps-2 c = search needs
+slice-read-pair-taps-2 : tie.Need-slice-read-pair-taps-2 Inv-loop μ-loop
+slice-read-pair-taps-2 c = search needs
 
-less-taps-requires-2 : tie.Need-less-taps-requires-2 Inv-loop μ-loop
-less-taps-requires-2 c κs = search needs
+pair-taps-requires-2 : tie.Need-pair-taps-requires-2 Inv-loop μ-loop
+pair-taps-requires-2 c κs = search needs
 
 add-y : tie.Need-add-y Inv-loop μ-loop
 add-y c = search needs
@@ -110,8 +110,8 @@ loop-less c = search needs
 loop-again : tie.Need-loop-again Inv-loop μ-loop
 loop-again c = let h = c .before .before .before .before .before .before .before .before .before .loop in
     let a = c .before .before .before .before .before .before .before .before .before .before .before .before .before .before .before .before .before .before .before .before .before .before .args in
-    let s = c .before .before .before .before .less-taps in
-    let t = c .less-taps2 in (
+    let s = c .before .before .before .before .pair-taps in
+    let t = c .pair-taps2 in (
       search needs,
       filtered-more (a .den-a .now) (a .mem-a .now) (a .a .now) (h .a) (h .y) (h .i) (s .result) (h .inv .1) (search needs) (search needs) (search needs) (search needs) (s .ensures),
       filtered-more (a .den-b .now) (a .mem-b .now) (a .b .now) (h .b) (h .z) (h .i) (t .result) (h .inv .2) (search needs) (search needs) (search needs) (search needs) (t .ensures),
@@ -145,14 +145,14 @@ celt-iir-pair-spec =
     slice-aggregate-remember-2
     remember-requires-2
     loop-holds
-    slice-aggregate-less-taps
-    mul-less-taps
-    slice-read-less-taps
-    less-taps-requires
-    slice-aggregate-less-taps-2
-    mul-less-taps-2
-    slice-read-less-taps-2
-    less-taps-requires-2
+    slice-aggregate-pair-taps
+    mul-pair-taps
+    slice-read-pair-taps
+    pair-taps-requires
+    slice-aggregate-pair-taps-2
+    mul-pair-taps-2
+    slice-read-pair-taps-2
+    pair-taps-requires-2
     add-y
     mul-y
     array-write-y
