@@ -137,25 +137,21 @@ pub mod ref_decode {
         //@ methods
     }
 
-    // Parts of `decode_lost`, each with the locals it reads ahead of it.
+    // Parts of `decode_lost`, after the locals that it begins with and what else they read.
     impl CeltRefDecoder {
         pub fn step_lag(&mut self) {
             //@ lag
         }
 
         pub fn step_pitch(&mut self, fade: f32) {
-            let channels = self.channels;
-            let frame = self.frame_size();
-            let overlap = self.mode.overlap;
+            //@ locals
             let pitch_index = self.last_pitch_index;
             let len = frame + overlap;
             //@ pitch
         }
 
         pub fn step_energies(&mut self) -> [[f32; MAX_BANDS]; 2] {
-            let channels = self.channels;
-            let start = self.start;
-            let end = self.end.min(self.mode.eff_ebands);
+            //@ locals
             let nb = self.mode.nb_ebands;
             //@ energies
             band_e
@@ -166,13 +162,7 @@ pub mod ref_decode {
             band_e: &[[f32; MAX_BANDS]; 2],
         ) -> Result<Vec<f32>, Error> {
             let c = 0;
-            let frame = self.frame_size();
-            let overlap = self.mode.overlap;
-            let start = self.start;
-            let downsample = self.downsample;
-            let m = 1usize << self.lm;
-            let eb = |i: usize| self.mode.e_bands[i] as usize;
-            let end = self.end.min(self.mode.eff_ebands);
+            //@ locals
             let mut seed = self.rng;
             //@ noise_block
             self.rng = seed;
@@ -180,14 +170,7 @@ pub mod ref_decode {
         }
 
         pub fn step_noise(&mut self, band_e: &[[f32; MAX_BANDS]; 2]) -> Result<(), Error> {
-            let channels = self.channels;
-            let frame = self.frame_size();
-            let overlap = self.mode.overlap;
-            let start = self.start;
-            let downsample = self.downsample;
-            let m = 1usize << self.lm;
-            let eb = |i: usize| self.mode.e_bands[i] as usize;
-            let end = self.end.min(self.mode.eff_ebands);
+            //@ locals
             let mut seed = self.rng;
             //@ noise
             self.rng = seed;
@@ -195,9 +178,7 @@ pub mod ref_decode {
         }
 
         pub fn step_deemphasis(&mut self) -> Vec<f32> {
-            let channels = self.channels;
-            let frame = self.frame_size();
-            let downsample = self.downsample;
+            //@ locals
             let mut pcm = vec![0f32; channels * (frame / downsample)];
             //@ deemphasis
             pcm

@@ -55,6 +55,7 @@ def steps(parts):
     if not gain:
         extract.stop("decode_lost: the gain of a background energy not found")
     return {
+        "locals": extract.between(lost, "let lm = self.lm;", "let mut pcm = ", what),
         "lag": extract.between(lost, "let poffset = 720usize;", "} else {", what),
         "pitch": extract.block(
             lost, "for c in 0..channels {\n                let out_mem_base", what),
