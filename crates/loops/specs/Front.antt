@@ -48,6 +48,17 @@ fill-more v xs b i e h =
 pub fill-all : {A : Type 0} (v : A) (xs b : List A) (i : ℕ) → b ≡ front (replicate i v) xs i → length xs ≡ i → b ≡ replicate (length xs) v
 fill-all v xs b i e h = front-all v xs b (replicate i v) i e (length-replicate i v) (omega arith) ∙ ap (λ z. replicate z v) (sym h)
 
+-- a list whose first places take another's, one after the other
+pub copy-none : {A : Type 0} (src xs : List A) → xs ≡ front (take 0 src) xs 0
+unfolding front
+copy-none src xs = refl
+
+pub copy-more : {A : Type 0} (d : A) (src xs b : List A) (i : ℕ) → b ≡ front (take i src) xs i → i < length src → i < length xs
+    → set b i (getD src i d) ≡ front (take (i + 1) src) xs (i + 1)
+copy-more d src xs b i e s h =
+    front-write d xs b (take i src) i e (length-take-le i src (omega arith)) (getD src i d) h
+    ∙ ap (λ z. front z xs (i + 1)) (sym (ap (λ z. take z src) (add-one i) ∙ take-suc src i d s))
+
 -- each element in turn replaced by f of it
 pub map-none : {A : Type 0} (f : A → A) (xs : List A) → xs ≡ front (map f (take 0 xs)) xs 0
 unfolding front

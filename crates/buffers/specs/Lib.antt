@@ -1,0 +1,2 @@
+-- What the shared loops over sample buffers leave.
+pub mod Buffers
