@@ -14,7 +14,8 @@ use Rattle.loops.specs.Pick.{pick-true, pick-false}
 use Rattle.buffers.specs.Buffers.{copied, copied-all}
 use Rattle.post_filter.specs.declared.Filter.{Filter}
 use Rattle.post_filter.specs.Limits.{filterFits}
-use Rattle.post_filter.specs.Comb.{half, overlap, combGains, combFilterTo, length-combFilterTo, tapGain, preFiltered, preFilteredEnd, prefilterTakes}
+use Rattle.history.specs.History.{half, overlap}
+use Rattle.post_filter.specs.Comb.{combGains, combFilterTo, length-combFilterTo, tapGain, preFiltered, preFilteredEnd, prefilterTakes}
 
 pub comb-last : (n : ℕ) → (n ≡ 0 → ⊥) → (n ≡ 1 → ⊥) → combGains 2 ≡ combGains n
 unfolding combGains

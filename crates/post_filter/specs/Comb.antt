@@ -8,14 +8,9 @@ use lib.ListN.{getD, length, take, drop, length-append, length-take, length-drop
 use lib.Dec.{eqb}
 use lib.Ieee.{Float, nan, binary32, add, mul, neg, eq, ofBits}
 use Rattle.loops.specs.Front.{tab, length-tab}
+use Rattle.history.specs.History.{half, overlap}
 use Rattle.post_filter.specs.declared.Filter.{Filter}
 use Rattle.post_filter.specs.Limits.{filterFits}
-
-abbrev pub half : ℕ
-half = 1024
-
-abbrev pub overlap : ℕ
-overlap = 120
 
 abbrev f32 : ℕ → Float
 f32 b = ofBits binary32 b

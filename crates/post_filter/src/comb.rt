@@ -3,12 +3,11 @@ ghost use mathlib.Core.Path.{_≡_};
 ghost use Prim.Native.Nat.{_+_, _≤_, _<_};
 ghost use lib.ListN.{length};
 ghost use Rattle.post_filter.specs.Limits.{periodMost};
-ghost use Rattle.post_filter.specs.Comb.{half, overlap, tapGain, combAt, combFilterTo};
+ghost use Rattle.history.specs.History.{half, overlap};
+ghost use Rattle.post_filter.specs.Comb.{tapGain, combAt, combFilterTo};
 use crate::Filter;
-
-pub(crate) const HALF: usize = 1024;
-
-pub(crate) const OVERLAP: usize = 120;
+use history::HALF;
+use history::OVERLAP;
 
 // What each tap is multiplied by.
 pub(crate) struct Taps {

@@ -4,10 +4,11 @@ ghost use Prim.Native.Nat.{_+_, _≤_};
 ghost use lib.ListN.{length};
 ghost use Rattle.loops.specs.Reply.{reply, replyIf};
 ghost use Rattle.post_filter.specs.Limits.{periodLeast, periodMost};
-ghost use Rattle.post_filter.specs.Comb.{half, overlap, preFilteredEnd, prefilterTakes};
+ghost use Rattle.history.specs.History.{half, overlap};
+ghost use Rattle.post_filter.specs.Comb.{preFilteredEnd, prefilterTakes};
 use crate::Filter;
-use crate::comb::HALF;
-use crate::comb::OVERLAP;
+use history::HALF;
+use history::OVERLAP;
 
 fn filter_overlap(t: &mut [f32], f: Filter)
     requires { ⌜ (length (now t) ≡ half + overlap) × (periodLeast ≤ f .period) × (f .period ≤ periodMost) ⌝ }

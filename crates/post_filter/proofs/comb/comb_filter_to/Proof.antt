@@ -4,7 +4,8 @@ use lib.ListN.{length, length-set}
 use borrow.Author.Needs.{needs}
 use lib.Ieee.{Float, nan}
 use Rattle.loops.specs.Front.{front, tab, tab-none, tab-more, tab-all}
-use Rattle.post_filter.specs.Comb.{half, overlap, combAt, combFilterTo}
+use Rattle.history.specs.History.{half, overlap}
+use Rattle.post_filter.specs.Comb.{combAt, combFilterTo}
 use Rattle.post_filter.proofs.comb.comb_filter_to.Statement.{statement}
 use Rattle.post_filter.proofs.comb.comb_filter_to.Tie as tie
 

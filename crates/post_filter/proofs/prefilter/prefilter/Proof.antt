@@ -8,7 +8,8 @@ use Rattle.loops.specs.Logic.{and-both, and-first, and-second}
 use Rattle.loops.specs.Reply.{reply-yes, reply-no}
 use mathlib.Core.Bool.{true}
 use Rattle.post_filter.specs.Limits.{filterFits, fits-each}
-use Rattle.post_filter.specs.Comb.{half, overlap, prefilterTakes}
+use Rattle.history.specs.History.{half, overlap}
+use Rattle.post_filter.specs.Comb.{prefilterTakes}
 use Rattle.post_filter.proofs.prefilter.prefilter.Statement.{statement}
 use Rattle.post_filter.proofs.prefilter.prefilter.Tie as tie
 
