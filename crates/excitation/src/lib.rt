@@ -8,6 +8,7 @@ ghost use Rattle.history.specs.History.{half};
 ghost use Rattle.plc_filter.specs.Fir.{celtFirFrom};
 ghost use Rattle.excitation.specs.Cycle.{cycle, pitchCycle, cycleTakes};
 use history::HALF;
+
 mod copy;
 mod decay;
 
@@ -42,20 +43,38 @@ fn repeat(e: &mut [f32], new: &[f32], lag: usize, lpc: &[f32; 24], mem: &[f32; 2
 
 // Fills e with the last pitch cycle of new's excitation, by the predictor lpc and the samples before new, the most recent first.
 // Refused, with energy +0 and e as lent: new not of 1,024 samples, a lag of 0 or above 1,024.
-pub fn repeat_cycle(e: &mut [f32], new: &[f32], lag: usize, lpc: &[f32; 24], mem: &[f32; 24]) -> Repeated
+pub fn repeat_cycle(
+    e: &mut [f32],
+    new: &[f32],
+    lag: usize,
+    lpc: &[f32; 24],
+    mem: &[f32; 24],
+) -> Repeated
     ensures { λ r. ⌜ reply (r .taken) (cycle (now (e .exit)) (r .energy))
         ≡ replyIf (cycleTakes (length (now (new .entry))) lag)
         (pitchCycle (length (now (e .entry))) (now (lpc .entry)) (now (mem .entry)) (now (new .entry)) lag) (cycle (now (e .entry)) zero32) ⌝ }
 {
     if new.len() != HALF {
-        return Repeated { taken: false, energy: 0.0 };
+        return Repeated {
+            taken: false,
+            energy: 0.0,
+        };
     }
     if lag < 1 {
-        return Repeated { taken: false, energy: 0.0 };
+        return Repeated {
+            taken: false,
+            energy: 0.0,
+        };
     }
     if HALF < lag {
-        return Repeated { taken: false, energy: 0.0 };
+        return Repeated {
+            taken: false,
+            energy: 0.0,
+        };
     }
     let energy = repeat(e, new, lag, lpc, mem);
-    Repeated { taken: true, energy }
+    Repeated {
+        taken: true,
+        energy,
+    }
 }

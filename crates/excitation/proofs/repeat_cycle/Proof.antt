@@ -1,40 +1,50 @@
-use mathlib.Core.Path.{_≡_, refl, ap, _∙_, sym}
-use mathlib.Core.List.{List, [], _∷_, _++_}
-use mathlib.Core.Logic.{⊎-elim}
-use Prim.Native.Nat.{ℕ, zero, suc, _+_, _≤_, _<_, _-_}
-use native.Mathlib.Omega.{arith}
-use native.Mathlib.Numerals.{add-one}
-use lib.ListN.{length, getD, set, take, drop, length-set}
+use mathlib.Core.Path.{_≡_, refl}
+use mathlib.Core.Bool.{true, false}
+use lib.ListN.{length}
 use borrow.Author.Needs.{needs}
+use borrow.Author.Tests.{eq-eqb, ne-eqb, le-leb, lt-leb}
+use Rattle.history.specs.History.{half}
+use Rattle.loops.specs.Reply.{reply-yes, reply-no}
+use Rattle.excitation.specs.Cycle.{pitchCycle, cycleTakes}
 use Rattle.excitation.proofs.repeat_cycle.Statement.{statement}
 use Rattle.excitation.proofs.repeat_cycle.Tie as tie
-use Rattle.excitation.proofs.repeat_cycle.Reads as reads
-use Rattle.excitation.proofs.repeat_cycle.Lts as lts
-use Rattle.excitation.proofs.repeat.Reads as repeat-reads
 
--- src/lib.rt:51:9
 returns : tie.Need-returns
-returns c = search needs
+unfolding cycleTakes
+returns c =
+    let a = c .before .before .before .args in
+    let p : cycleTakes (length (a .new .now)) (a .lag) ≡ false = simp (ne-eqb (length (a .new .now)) half (c .if1 .taken)) in
+    reply-no _ _ _ p refl
 
--- src/lib.rt:54:9
 returns-2 : tie.Need-returns-2
-returns-2 c = search needs
+unfolding cycleTakes
+returns-2 c =
+    let a = c .before .before .before .before .args in
+    let p : cycleTakes (length (a .new .now)) (a .lag) ≡ false =
+    simp (eq-eqb (length (a .new .now)) half (search needs), lt-leb 1 (a .lag) (search needs)) in
+    reply-no _ _ _ p refl
 
--- src/lib.rt:57:9
 returns-3 : tie.Need-returns-3
-returns-3 c = search needs
+unfolding cycleTakes
+returns-3 c =
+    let a = c .before .before .before .before .before .args in
+    let p : cycleTakes (length (a .new .now)) (a .lag) ≡ false =
+    simp (eq-eqb (length (a .new .now)) half (search needs), le-leb 1 (a .lag) (search needs), lt-leb (a .lag) half (search needs)) in
+    reply-no _ _ _ p refl
 
--- src/lib.rt:59:9
 repeat-requires : tie.Need-repeat-requires
 repeat-requires c κs = search needs
 
--- src/lib.rt:45:1
 same-length : tie.Need-same-length
 same-length c = search needs
 
--- src/lib.rt:45:1
 returns-4 : tie.Need-returns-4
-returns-4 c = search needs
+unfolding cycleTakes
+returns-4 c =
+    let a = c .before .before .before .before .before .before .before .before .before .args in
+    let p : cycleTakes (length (a .new .now)) (a .lag) ≡ true =
+    simp (eq-eqb (length (a .new .now)) half (search needs), le-leb 1 (a .lag) (search needs), le-leb (a .lag) half (search needs)) in
+    reply-yes _ (pitchCycle (length (a .e .now)) (a .lpc .now) (a .mem .now) (a .new .now) (a .lag)) _ p (c .before .before .repeat .ensures)
 
 pub repeat-cycle-spec : {M : Type 1} → statement M
 repeat-cycle-spec =
