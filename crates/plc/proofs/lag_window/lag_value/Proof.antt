@@ -1,4 +1,4 @@
-use Rattle.plc_pitch.specs.LagWindow.{lagged, windowed, lagFactor}
+use Rattle.plc.specs.LagWindow.{lagValue, lagWindowed, lagFactor}
 use Rattle.loops.specs.Pick.{pick-true, pick-false}
 use borrow.Author.Tests.{eq-eqb, ne-eqb}
 use Prim.Native.Nat.{_^_}
@@ -6,11 +6,11 @@ use lib.Dec.{le→leb}
 use lib.Ieee.{inFloat}
 use mathlib.Core.Path.{sym}
 use native.Mathlib.Omega.{arith}
-use Rattle.plc_pitch.proofs.lag_window.lag_value.Statement.{statement}
-use Rattle.plc_pitch.proofs.lag_window.lag_value.Tie as tie
+use Rattle.plc.proofs.lag_window.lag_value.Statement.{statement}
+use Rattle.plc.proofs.lag_window.lag_value.Tie as tie
 
 returns : tie.Need-returns
-unfolding lagged
+unfolding lagValue
 returns c =
     sym (pick-true _ _ _ (eq-eqb _ _ (c .if1 .taken)))
 
@@ -20,7 +20,7 @@ int-to-float-f c =
     le→leb (c .before .before .args .i) (2 ^ 24) (omega arith)
 
 returns-2 : tie.Need-returns-2
-unfolding lagged windowed lagFactor
+unfolding lagValue lagWindowed lagFactor
 returns-2 c =
     sym (pick-false _ _ _ (ne-eqb _ _ (c .before .if1 .left)))
 

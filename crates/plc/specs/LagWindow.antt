@@ -21,15 +21,15 @@ unfoldable pub lagFactor : ℕ → Float
 lagFactor i = mul binary32 lagStep (ofInt binary32 (pos i))
 
 -- a less a × (0.008 × i) × (0.008 × i)
-unfoldable pub windowed : Float → ℕ → Float
-windowed a i = sub binary32 a (mul binary32 (mul binary32 a (lagFactor i)) (lagFactor i))
+unfoldable pub lagWindowed : Float → ℕ → Float
+lagWindowed a i = sub binary32 a (mul binary32 (mul binary32 a (lagFactor i)) (lagFactor i))
 
 -- the correlation a of lag i
-unfoldable pub lagged : Float → ℕ → Float
-lagged a i = cond (eqb i 0) (mul binary32 a floorFactor) (windowed a i)
+unfoldable pub lagValue : Float → ℕ → Float
+lagValue a i = cond (eqb i 0) (mul binary32 a floorFactor) (lagWindowed a i)
 
 unfoldable pub lagWindow : List Float → List Float
-lagWindow ac = tab (λ (i : ℕ). lagged (getD ac i nan) i) (length ac)
+lagWindow ac = tab (λ (i : ℕ). lagValue (getD ac i nan) i) (length ac)
 
 pub length-lagWindow : (ac : List Float) → length (lagWindow ac) ≡ length ac
 unfolding lagWindow

@@ -1,17 +1,18 @@
+use Rattle.loops.specs.Reply.{reply-yes, reply-no}
 use Rattle.loops.specs.Front.{front, tab, tab-none, tab-more, tab-read, tab-all}
-use Rattle.plc_pitch.specs.LagWindow.{lagged, lagWindow}
+use Rattle.plc.specs.LagWindow.{lagValue, lagWindow}
 use borrow.Author.Tests.{le-leb, lt-leb}
 use lib.Ieee.{nan}
-use mathlib.Core.Path.{_≡_, refl, ap, _∙_, sym}
+use mathlib.Core.Path.{_≡_, refl, ap, _∙_}
 use Prim.Native.Nat.{ℕ, _≤_, _<_, _-_}
 use lib.ListN.{length, getD, length-set}
 use borrow.Author.Needs.{needs}
-use Rattle.plc_pitch.proofs.lag_window.lag_window.Statement.{statement}
-use Rattle.plc_pitch.proofs.lag_window.lag_window.Tie as tie
+use Rattle.plc.proofs.lag_window.lag_window.Statement.{statement}
+use Rattle.plc.proofs.lag_window.lag_window.Tie as tie
 
 abbrev Inv-loop : tie.InvT-loop
 Inv-loop ac₀ n i₀ ac i =
-    (i ≤ n) × (n ≡ length ac₀) × (length ac ≡ length ac₀) × (ac ≡ front (tab (λ (k : ℕ). lagged (getD ac₀ k nan) k) i) ac₀ i)
+    (i ≤ n) × (n ≡ length ac₀) × (length ac ≡ length ac₀) × (ac ≡ front (tab (λ (k : ℕ). lagValue (getD ac₀ k nan) k) i) ac₀ i)
 
 abbrev μ-loop : tie.MeasureT-loop
 μ-loop ac₀ n i₀ ac i =
@@ -19,7 +20,7 @@ abbrev μ-loop : tie.MeasureT-loop
 
 returns : tie.Need-returns Inv-loop μ-loop
 returns c =
-    (sym (lt-leb _ 65536 (c .if1 .taken)), refl)
+    reply-no _ _ _ (lt-leb _ 65536 (c .if1 .taken)) refl
 
 loop-holds : tie.Need-loop-holds Inv-loop μ-loop
 loop-holds c =
@@ -50,7 +51,9 @@ loop-again : tie.Need-loop-again Inv-loop μ-loop
 loop-again c =
     let l = c .before .before .before .loop in
     let h : l .i < length (c .before .before .before .before .before .before .args .ac .now) = search needs in
-    (search needs, search needs, simp length-set (l .inv .2), tab-more _ nan _ _ _ (l .inv .3) _ (c .lag-value .ensures ∙ ap (λ z. lagged z (l .i)) (tab-read _ nan _ _ _ (l .inv .3) h)) h)
+    let e : c .lag-value .result ≡ lagValue (getD (c .before .before .before .before .before .before .args .ac .now) (l .i) nan) (l .i) =
+    c .lag-value .ensures ∙ ap (λ z. lagValue z (l .i)) (tab-read _ nan _ _ _ (l .inv .3) h) in
+    (search needs, search needs, simp length-set (l .inv .2), tab-more _ nan _ _ _ (l .inv .3) _ e h)
 
 same-length : tie.Need-same-length Inv-loop μ-loop
 same-length c = search needs
@@ -61,7 +64,7 @@ returns-2 c =
     let l = c .before .loop in
     let n : length (c .before .before .before .before .args .ac .now) ≤ 65536 = search needs in
     let e : length (c .before .before .before .before .args .ac .now) ≡ l .i = search needs in
-    (sym (le-leb _ 65536 n), tab-all _ nan _ _ _ (l .inv .3) e)
+    reply-yes _ _ _ (le-leb _ 65536 n) (tab-all _ nan _ _ _ (l .inv .3) e)
 
 pub lag-window-spec : {M : Type 1} → statement M
 lag-window-spec =
