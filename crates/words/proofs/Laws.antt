@@ -10,6 +10,7 @@ use lib.Seq.{take-at, drop-at, drop-drop, length-take-le}
 use lib.Dec.{leb}
 use borrow.Author.Tests.{le-leb, lt-leb, leb-true, leb-false}
 use Rattle.loops.specs.Part.{put}
+use Rattle.loops.specs.Reply.{reply, replyIf, reply-lent}
 use Rattle.loops.specs.Pick.{pick-true, pick-false}
 use Rattle.loops.specs.Front.{tab, length-tab, front, tab-none, tab-more, tab-all}
 use lib.Ieee.{Float}
@@ -23,6 +24,10 @@ module _ (b : List ℕ) (i : ℕ) where
   pub holds-false : (n : ℕ) → length b < 4 * (i + n) → holds b i n ≡ false
   unfolding holds
   holds-false n l = lt-leb (4 * (i + n)) (length b) l
+
+  -- what is written where there is room
+  pub written : (n : ℕ) (x : List ℕ) {t : Bool} {y : List ℕ} → reply t y ≡ replyIf (holds b i n) x b → 4 * (i + n) ≤ length b → y ≡ x
+  written n x e l = reply-lent (holds b i n) x b e (holds-true n l)
 
   pub word-past : length b < 4 * (i + 1) → wordAt b i ≡ 0
   unfolding wordAt
@@ -74,7 +79,7 @@ module _ (w : ℕ → ℕ) (xs : List ℕ) where
         → d ≡ set (set (set (set b (4 * i) (byteOf v 0)) (4 * i + 1) (byteOf v 1)) (4 * i + 2) (byteOf v 2)) (4 * i + 3) (byteOf v 3)
         → d ≡ front (bytesBy w (i + 1)) xs (4 * (i + 1))
     unfolding bytesBy
-    bytes-more d written =
+    bytes-more d is-set =
         let f : ℕ → ℕ = λ (q : ℕ). byteOf (w (q / 4)) (q % 4) in
         let z : 4 * i + 0 ≡ 4 * i = omega arith in
         let p0 = tab-more f 0 xs b (4 * i) e (byteOf v 0) (digit 0 (omega arith) ∙ ap f z) (omega arith) in
@@ -84,7 +89,7 @@ module _ (w : ℕ → ℕ) (xs : List ℕ) where
         let a3 : 4 * i + 2 + 1 ≡ 4 * i + 3 = omega arith in
         let p3 = tab-more f 0 xs _ (4 * i + 3) (p2 ∙ ap (λ n. front (tab f n) xs n) a3) (byteOf v 3) (digit 3 (omega arith)) (omega arith) in
         let a4 : 4 * i + 3 + 1 ≡ 4 * (i + 1) = omega arith in
-        written ∙ p3 ∙ ap (λ n. front (tab f n) xs n) a4
+        is-set ∙ p3 ∙ ap (λ n. front (tab f n) xs n) a4
 
 -- a word's digits to the base 256
 pub put-word-law : (b : List ℕ) (k w : ℕ)
