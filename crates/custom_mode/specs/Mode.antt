@@ -1,6 +1,6 @@
 -- The standard mode: its numbers and tables, stated here and nowhere else. What stands past a table's end is said with each.
 use mathlib.Core.List.{List, [], _∷_}
-use Prim.Native.Nat.{ℕ, zero, suc}
+use Prim.Native.Nat.{ℕ}
 use lib.ListN.{getD}
 use lib.Ieee.{Float, ofBits, binary32}
 
@@ -14,6 +14,10 @@ overlap = 120
 
 abbrev pub bands : ℕ
 bands = 21
+
+-- the energies of a channel: more than it has bands
+abbrev pub maxBands : ℕ
+maxBands = 25
 
 -- where the last band ends
 abbrev pub lastEdge : ℕ
@@ -40,12 +44,6 @@ means =
 
 unfoldable pub mean : ℕ → Float
 mean i = getD means i (f32 0)
-
--- the post-filter's three tap factors by tapset; past the last those of the last
-unfoldable pub combGains : ℕ → List Float
-combGains zero = f32 0x3e9d_0000 ∷ f32 0x3e5e_4000 ∷ f32 0x3e04_c000 ∷ []
-combGains (suc zero) = f32 0x3eed_8000 ∷ f32 0x3e89_4000 ∷ f32 0 ∷ []
-combGains (suc (suc n)) = f32 0x3f4c_c000 ∷ f32 0x3dcd_0001 ∷ f32 0 ∷ []
 
 -- the de-emphasis coefficients: 0.8500061, 0, 1, 1
 unfoldable pub preemph : List Float

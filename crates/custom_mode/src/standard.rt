@@ -1,6 +1,6 @@
 // The standard mode: numbers and tables. An accessor answers at every index; past a table's end it says what.
 ghost use mathlib.Core.Path.{_≡_};
-ghost use Rattle.custom_mode.specs.Mode.{edge, mean, combGains, preemph};
+ghost use Rattle.custom_mode.specs.Mode.{edge, mean, preemph};
 
 // The samples of the shortest block.
 pub const SHORT_BLOCK: usize = 120;
@@ -9,6 +9,9 @@ pub const SHORT_BLOCK: usize = 120;
 pub const OVERLAP: usize = 120;
 
 pub const BANDS: usize = 21;
+
+// The energies of a channel: more than it has bands.
+pub const MAX_BANDS: usize = 25;
 
 // Where the last band ends.
 pub const LAST_EDGE: usize = 100;
@@ -77,18 +80,7 @@ pub fn band_edge(i: usize) -> usize
 pub fn mean_energy(i: usize) -> f32
     ensures { λ r. ⌜ r ≡ mean i ⌝ }
 {
-    if i < 25 { E_MEANS[i] } else { 0.0 }
-}
-
-// The post-filter's tap factors; a tapset above 2 counts as 2.
-pub fn comb_gains(tapset: u32) -> [f32; 3]
-    ensures { λ r. ⌜ r ≡ combGains tapset ⌝ }
-{
-    match tapset {
-        0 => [0.30664062, 0.21704102, 0.12963867],
-        1 => [0.4638672, 0.2680664, 0.0],
-        _ => [0.7998047, 0.10009766, 0.0],
-    }
+    if i < MAX_BANDS { E_MEANS[i] } else { 0.0 }
 }
 
 // The de-emphasis coefficients.

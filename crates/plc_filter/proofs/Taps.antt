@@ -5,7 +5,7 @@ use mathlib.Core.List.{List, _++_}
 use Prim.Native.Nat.{ℕ, _+_, _-_, _≤_, _<_}
 use native.Mathlib.Omega.{arith}
 use lib.Dec.{eqb, ltb}
-use lib.ListN.{length, getD, set, take, drop, length-append, length-take, length-drop, List·getD-append}
+use lib.ListN.{length, getD, set, take, drop, length-append, length-take, List·getD-append}
 use lib.Seq.{getD-set-same, getD-set-other, getD-take, getD-append-add, length-take-le}
 use lib.Ieee.{Float, nan, binary32, add}
 use borrow.Author.Tests.{eqb-true, eqb-false, ltb-true, ltb-false}

@@ -1,6 +1,6 @@
 // The all-zero filter.
 ghost use mathlib.Core.Path.{_≡_};
-ghost use Prim.Native.Nat.{ℕ, _+_, _-_, _≤_, _<_};
+ghost use Prim.Native.Nat.{_+_, _-_, _≤_, _<_};
 ghost use lib.ListN.{length};
 ghost use Rattle.loops.specs.Front.{tab};
 ghost use Rattle.loops.specs.Reply.{reply, replyIf};

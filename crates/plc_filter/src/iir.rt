@@ -1,6 +1,6 @@
 // The all-pole filter of order 24.
 ghost use mathlib.Core.Path.{_≡_};
-ghost use Prim.Native.Nat.{ℕ, _+_, _-_, _≤_, _<_};
+ghost use Prim.Native.Nat.{_+_, _-_, _≤_, _<_};
 ghost use lib.ListN.{length};
 ghost use Rattle.loops.specs.Reply.{reply, replyIf};
 ghost use Rattle.plc_filter.specs.Iir.{celtIir, channels, iirTakes, iirPairTakes};

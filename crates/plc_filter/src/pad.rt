@@ -1,6 +1,5 @@
 // A filter's memory ahead of its samples in one buffer, so that both are read by one index and nothing is shifted.
-ghost use mathlib.Core.Path.{_≡_};
-ghost use Prim.Native.Nat.{ℕ, _+_, _-_, _≤_, _<_};
+ghost use Prim.Native.Nat.{_-_, _≤_};
 ghost use lib.ListN.{length};
 ghost use Rattle.plc_filter.specs.Pad.{Remembers};
 

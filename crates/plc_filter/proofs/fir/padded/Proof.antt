@@ -1,6 +1,5 @@
 -- The memory stands before place 24 and the samples from it on.
 use Prim.Native.Nat.{_-_}
-use lib.ListN.{length}
 use borrow.Author.Needs.{needs}
 use Rattle.plc_filter.proofs.Taps.{remembers-put, holds-put}
 use Rattle.plc_filter.proofs.fir.padded.Statement.{statement}

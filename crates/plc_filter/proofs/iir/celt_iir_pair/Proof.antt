@@ -1,5 +1,5 @@
 -- After i turns the first i outputs of either channel stand in its buffer, and behind its memory.
-use mathlib.Core.Path.{_≡_, refl, ap₂}
+use mathlib.Core.Path.{refl, ap₂}
 use Prim.Native.Nat.{_≤_, _-_}
 use lib.ListN.{length}
 use borrow.Author.Needs.{needs}
