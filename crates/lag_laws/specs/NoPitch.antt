@@ -1,4 +1,4 @@
--- Histories with no pitch: samples that are all zero, of either sign, or all NaN, give offset 0 and so lag 720.
+-- Samples with no pitch: all zero, of either sign, or all NaN, give offset 0 and so lag 720.
 use mathlib.Core.Path.{_≡_, refl, ap, _∙_}
 use mathlib.Core.Bool.{Bool, true, false, cond, _||_}
 use mathlib.Core.List.{List}
@@ -10,11 +10,19 @@ use lib.Seq.{getD-drop}
 use lib.Ieee.{Float, nan, inf, fin, binary32, add, mul, lt, neg, isNan, ofBits, unlike}
 use Rattle.loops.specs.Fold.{fold-suc}
 use Rattle.loops.specs.Front.{getD-tab}
+use Rattle.loops.specs.Pick.{pick-false}
 use Rattle.loops.specs.Sum.{sumTo}
+use Rattle.buffers.specs.Buffers.{zero32}
 use Rattle.float_bits.specs.Extremes.{maxOf}
-use Rattle.plc_pitch.specs.Best.{zero32, minusOne, start}
-use Rattle.plc_pitch.specs.BestLaws.{fold-holds, none-positive}
-use Rattle.plc_pitch.specs.Search.{everySecond, crossSum, correlation, near, fineAt, coarse, fine, coarseBest, fineBest, refined, pitchSearch}
+use Rattle.plc_search.specs.Best.{minusOne, considered, sweepTurn, sweepTo, bestStart, findBestPitch}
+use Rattle.plc_search.specs.Offset.{fold-holds}
+use Rattle.plc_search.specs.Search.{everySecond, crossSum, correlation, near, fineAt, coarse, fine, coarseBest, fineBest, refined, pitchSearch}
+
+-- where no correlation is above 0 the pair stays 0 and 1
+pub none-positive : (xcorr y : List Float) (len n : ℕ) → ((i : ℕ) → i < n → lt zero32 (getD xcorr i nan) ≡ false) → findBestPitch xcorr y len n ≡ bestStart
+unfolding findBestPitch sweepTo sweepTurn considered
+none-positive xcorr y len n h =
+    fold-holds (λ s. s .best ≡ bestStart) (sweepTurn xcorr y len) _ n refl (λ s i l e. pick-false _ _ _ (h i l) ∙ e)
 
 -- ---- with no positive correlation the offset is 0
 abbrev NotPositive : Float → Type 0
@@ -26,9 +34,9 @@ zero-not-positive = refl
 
 module _ (y : List Float) (c : (i : ℕ) → i < 155 → NotPositive (correlation (everySecond (drop 360 y) 332) (everySecond y 487) 332 i))
     (f : (i : ℕ) → i < 310 → NotPositive (correlation (drop 360 y) y 664 i)) where
-  coarse-start : coarseBest y ≡ start
+  coarse-bestStart : coarseBest y ≡ bestStart
   unfolding coarseBest coarse
-  coarse-start =
+  coarse-bestStart =
       none-positive (coarse y) (everySecond y 487) 332 155
       (λ i h. ap (lt zero32) (getD-tab (correlation (everySecond (drop 360 y) 332) (everySecond y 487) 332) 155 i nan h) ∙ c i h)
 
@@ -40,15 +48,15 @@ module _ (y : List Float) (c : (i : ℕ) → i < 155 → NotPositive (correlatio
       go true = f i h
       go false = zero-not-positive
 
-  fine-start : fineBest y ≡ start
+  fine-bestStart : fineBest y ≡ bestStart
   unfolding fineBest fine
-  fine-start =
+  fine-bestStart =
       none-positive (fine y (coarseBest y)) y 664 310
       (λ i h. ap (lt zero32) (getD-tab (fineAt y (coarseBest y .at0) (coarseBest y .at1)) 310 i nan h) ∙ fine-not (coarseBest y .at0) (coarseBest y .at1) i h)
 
   pub none-found : pitchSearch y ≡ 0
   unfolding pitchSearch refined
-  none-found = ap (λ z. refined (fine y (coarseBest y)) (z .at0)) fine-start
+  none-found = ap (λ z. refined (fine y (coarseBest y)) (z .at0)) fine-bestStart
 
 -- ---- what samples a correlation reads
 module _ (P : Float → Type 0) (y : List Float) (a : (i : ℕ) → i < 1024 → P (getD y i nan)) where
@@ -64,7 +72,7 @@ module _ (P : Float → Type 0) (y : List Float) (a : (i : ℕ) → i < 1024 →
   second j h = rw (getD-tab (λ (k : ℕ). getD y (2 * k) nan) 487 j nan h) (a (2 * j) (omega arith))
 
 -- ---- zeros of either sign
-pub record Zero (v : Float) : Type 0 where
+pub record SignedZero (v : Float) : Type 0 where
   pub sign : Bool
   pub is : v ≡ fin sign 0 (pos 0)
 
@@ -77,7 +85,7 @@ unfolding add ofBits
 zero-add true = refl
 zero-add false = refl
 
-cross-zero : (x y : List Float) (i n : ℕ) → ((j : ℕ) → j < n → Zero (getD x j nan)) → ((j : ℕ) → j < n → Zero (getD y (i + j) nan)) → crossSum x y i n ≡ zero32
+cross-zero : (x y : List Float) (i n : ℕ) → ((j : ℕ) → j < n → SignedZero (getD x j nan)) → ((j : ℕ) → j < n → SignedZero (getD y (i + j) nan)) → crossSum x y i n ≡ zero32
 unfolding crossSum sumTo
 cross-zero x y i n a b =
     fold-holds (λ s. s ≡ zero32) _ zero32 n refl
@@ -92,15 +100,15 @@ zero-raised : maxOf zero32 minusOne ≡ zero32
 unfolding maxOf isNan lt neg ofBits
 zero-raised = refl
 
-correlation-zero : (x y : List Float) (n i : ℕ) → ((j : ℕ) → j < n → Zero (getD x j nan)) → ((j : ℕ) → j < n → Zero (getD y (i + j) nan)) → NotPositive (correlation x y n i)
+correlation-zero : (x y : List Float) (n i : ℕ) → ((j : ℕ) → j < n → SignedZero (getD x j nan)) → ((j : ℕ) → j < n → SignedZero (getD y (i + j) nan)) → NotPositive (correlation x y n i)
 unfolding correlation
 correlation-zero x y n i a b = ap (λ z. lt zero32 (maxOf z minusOne)) (cross-zero x y i n a b) ∙ ap (lt zero32) zero-raised ∙ zero-not-positive
 
-pub silent : (y : List Float) → ((i : ℕ) → i < 1024 → Zero (getD y i nan)) → pitchSearch y ≡ 0
+pub silent : (y : List Float) → ((i : ℕ) → i < 1024 → SignedZero (getD y i nan)) → pitchSearch y ≡ 0
 silent y a =
     none-found y
-    (λ i h. correlation-zero (everySecond (drop 360 y) 332) (everySecond y 487) 332 i (later-second Zero y a) (λ j k. second Zero y a (i + j) (omega arith)))
-    (λ i h. correlation-zero (drop 360 y) y 664 i (later Zero y a) (λ j k. a (i + j) (omega arith)))
+    (λ i h. correlation-zero (everySecond (drop 360 y) 332) (everySecond y 487) 332 i (later-second SignedZero y a) (λ j k. second SignedZero y a (i + j) (omega arith)))
+    (λ i h. correlation-zero (drop 360 y) y 664 i (later SignedZero y a) (λ j k. a (i + j) (omega arith)))
 
 -- ---- NaN
 pub add-nan : (x : Float) → add binary32 x nan ≡ nan
@@ -126,12 +134,12 @@ nan-raised : NotPositive (maxOf nan minusOne)
 unfolding maxOf isNan lt neg ofBits
 nan-raised = refl
 
-correlation-nan : (x y : List Float) (n i : ℕ) → getD x n nan ≡ nan → NotPositive (correlation x y (n + 1) i)
+correlation-lost : (x y : List Float) (n i : ℕ) → getD x n nan ≡ nan → NotPositive (correlation x y (n + 1) i)
 unfolding correlation
-correlation-nan x y n i e = ap (λ z. lt zero32 (maxOf z minusOne)) (cross-nan x y i n e) ∙ nan-raised
+correlation-lost x y n i e = ap (λ z. lt zero32 (maxOf z minusOne)) (cross-nan x y i n e) ∙ nan-raised
 
 pub all-nan : (y : List Float) → ((i : ℕ) → i < 1024 → getD y i nan ≡ nan) → pitchSearch y ≡ 0
 all-nan y a =
     none-found y
-    (λ i h. correlation-nan (everySecond (drop 360 y) 332) (everySecond y 487) 331 i (later-second (λ v. v ≡ nan) y a 331 (omega arith)))
-    (λ i h. correlation-nan (drop 360 y) y 663 i (later (λ v. v ≡ nan) y a 663 (omega arith)))
+    (λ i h. correlation-lost (everySecond (drop 360 y) 332) (everySecond y 487) 331 i (later-second (λ v. v ≡ nan) y a 331 (omega arith)))
+    (λ i h. correlation-lost (drop 360 y) y 663 i (later (λ v. v ≡ nan) y a 663 (omega arith)))
