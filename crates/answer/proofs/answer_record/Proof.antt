@@ -1,14 +1,18 @@
--- `record::answer::answer_record` meets its contract: other lengths leave both buffers.
+-- `answer::answer_record` meets its contract: other lengths leave both buffers.
 use borrow.Author.Needs.{needs}
-use Rattle.record.proofs.Answers.{stays, answers, taken, not-record, no-room}
-use Rattle.record.proofs.answer.answer_record.Statement.{statement}
-use Rattle.record.proofs.answer.answer_record.Tie as tie
+use Rattle.answer.proofs.Answers.{stays, answers, accepted, not-record, no-room}
+use Rattle.answer.proofs.answer_record.Statement.{statement}
+use Rattle.answer.proofs.answer_record.Tie as tie
 
 returns : tie.Need-returns
-returns c = let s = c .before .before .before in stays (s .args .rec .now) (s .args .head .now) (not-record (s .args .rec .now) (s .args .head .now) (c .if1 .taken))
+returns c =
+    let a = c .before .before .before .args in
+    stays (a .rec .now) (a .head .now) (not-record (a .rec .now) (a .head .now) (c .if1 .taken))
 
 returns-2 : tie.Need-returns-2
-returns-2 c = let s = c .before .before .before .before in stays (s .args .rec .now) (s .args .head .now) (no-room (s .args .rec .now) (s .args .head .now) (c .before .if1 .left) (c .if2 .taken))
+returns-2 c =
+    let a = c .before .before .before .before .args in
+    stays (a .rec .now) (a .head .now) (no-room (a .rec .now) (a .head .now) (c .if2 .taken))
 
 answer-requires : tie.Need-answer-requires
 answer-requires c κs = search needs
@@ -20,7 +24,9 @@ same-length-2 : tie.Need-same-length-2
 same-length-2 c = search needs
 
 returns-3 : tie.Need-returns-3
-returns-3 c = let s = c .before .before .before .before .before .before .before .before .before .before .before in let y = c .before .before .before .before .answer .ensures in answers (s .args .rec .now) (s .args .head .now) (taken (s .args .rec .now) (s .args .head .now) (c .before .before .before .before .before .before .before .before .if1 .left) (c .before .before .before .before .before .before .before .if2 .left)) _ _ _ (y .0) (y .1) (y .2)
+returns-3 c =
+    let a = c .before .before .before .before .before .before .before .before .before .before .before .args in
+    answers (a .rec .now) (a .head .now) (accepted (a .rec .now) (a .head .now) (c .before .before .before .before .before .before .before .before .if1 .left) (c .before .before .before .before .before .before .before .if2 .left)) (c .before .before .before .before .answer .ensures)
 
 pub answer-record-spec : {M : Type 1} → statement M
 answer-record-spec =
