@@ -25,8 +25,11 @@ same-length-2 c = search needs
 
 returns-3 : tie.Need-returns-3
 returns-3 c =
-    let a = c .before .before .before .before .before .before .before .before .before .before .before .args in
-    answers (a .rec .now) (a .head .now) (accepted (a .rec .now) (a .head .now) (c .before .before .before .before .before .before .before .before .if1 .left) (c .before .before .before .before .before .before .before .if2 .left)) (c .before .before .before .before .answer .ensures)
+    let call = c .before .before .before .before in
+    let second = call .before .before .before in
+    let a = second .before .before .before .before .args in
+    let fits = accepted (a .rec .now) (a .head .now) (second .before .if1 .left) (second .if2 .left) in
+    answers (a .rec .now) (a .head .now) fits (call .answer .ensures)
 
 pub answer-record-spec : {M : Type 1} → statement M
 answer-record-spec =

@@ -35,12 +35,13 @@ same-length c = search needs
 
 returns : tie.Need-returns
 returns c =
-    let start = c .before .before .before .before .before .before .before .before .before .before .before .before .before .before .before .before .before .before .before in
-    let words = c .before .before .before .before .before .before .before .before .before .before .before .before .before .before in
+    let energies = c .before .before .before .before .before .before .before .before in
+    let words = energies .before .before .before .before .before .before in
+    let start = words .before .before .before .before .before in
     let head = words .before .before .before .head-words in
     let first = written (start .args .b .now) 0 (length (head .result)) _ (words .put-words-at .ensures) (omega (arith, start .pre)) in
-    state-parts (start .args .s) _ (start .args .b .now) _ _ _ (head .ensures) first (c .before .before .before .before .before .before .before .before .put-energies .ensures) (c .before .before .put-memories .ensures)
-    (coarse-length start) (background-length start)
+    state-parts (start .args .s) _ (start .args .b .now) _ _ _ (head .ensures) first (energies .put-energies .ensures)
+    (c .before .before .put-memories .ensures) (coarse-length start) (background-length start)
 
 pub write-state-spec : {M : Type 1} → statement M
 write-state-spec =
