@@ -1,2 +1,3 @@
 pub mod Passed
-pub mod Table
+mod Table
+pub mod Keep

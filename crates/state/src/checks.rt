@@ -3,13 +3,12 @@ ghost use mathlib.Core.Path.{_≡_};
 ghost use mathlib.Core.Bool.{cond};
 ghost use lib.Dec.{eqb};
 ghost use Rattle.state.specs.Answer.{numberOf};
-ghost use Rattle.state.specs.Settings.{orElse, within, checkLm, checkChannels, checkStart, checkEnd, checkDownsample, checkSettings};
-ghost use Rattle.state.specs.Refusal.{checkCount, checkLag, checkFilter, checkHistory, checkPcm, refusesState, refusal};
+ghost use Rattle.state.specs.Settings.{orElse, within, checkEnd, checkDownsample, checkSettings};
+ghost use Rattle.state.specs.Refusal.{checkLag, refusesState, refusal};
 use crate::Number;
 use crate::Settings;
 use crate::State;
 use crate::sizes::needed_samples;
-use post_filter::Filter;
 use post_filter::filter_fits;
 
 pub const LM_MOST: u32 = 3;
@@ -55,24 +54,6 @@ fn is_within(lo: u32, hi: u32, x: u32) -> bool
     x <= hi
 }
 
-fn check_lm(lm: u32) -> Number
-    ensures { λ r. ⌜ numberOf r ≡ checkLm lm ⌝ }
-{
-    unless(lm <= LM_MOST, Number::BadLm)
-}
-
-fn check_channels(channels: u32) -> Number
-    ensures { λ r. ⌜ numberOf r ≡ checkChannels channels ⌝ }
-{
-    unless(is_within(1, CHANNELS_MOST, channels), Number::BadChannels)
-}
-
-fn check_start(start: u32) -> Number
-    ensures { λ r. ⌜ numberOf r ≡ checkStart start ⌝ }
-{
-    unless(start < BANDS, Number::BadStart)
-}
-
 fn check_end(start: u32, end: u32) -> Number
     ensures { λ r. ⌜ numberOf r ≡ checkEnd start end ⌝ }
 {
@@ -94,11 +75,15 @@ fn check_downsample(d: u32) -> Number
 pub fn check_settings(k: Settings) -> Number
     ensures { λ r. ⌜ numberOf r ≡ checkSettings k ⌝ }
 {
+    let lm = unless(k.lm <= LM_MOST, Number::BadLm);
+    let channels = unless(is_within(1, CHANNELS_MOST, k.channels), Number::BadChannels);
+    let start = unless(k.start < BANDS, Number::BadStart);
+    let end = check_end(k.start, k.end);
     let downsample = check_downsample(k.downsample);
-    let end = or_else(check_end(k.start, k.end), downsample);
-    let start = or_else(check_start(k.start), end);
-    let channels = or_else(check_channels(k.channels), start);
-    or_else(check_lm(k.lm), channels)
+    or_else(
+        lm,
+        or_else(channels, or_else(start, or_else(end, downsample))),
+    )
 }
 
 pub fn settings_pass(k: Settings) -> bool
@@ -107,14 +92,8 @@ pub fn settings_pass(k: Settings) -> bool
     check_settings(k).value() == 0
 }
 
-pub fn check_count(c: u32) -> Number
-    ensures { λ r. ⌜ numberOf r ≡ checkCount c ⌝ }
-{
-    unless(c != COUNT_FULL, Number::CountFull)
-}
-
-// A lag is read where a pitch loss carries it.
-pub fn check_lag(start: u32, c: u32, lag: u32) -> Number
+// A carried lag is read where start is 0 and the loss count 1 to 4.
+fn check_lag(start: u32, c: u32, lag: u32) -> Number
     ensures { λ r. ⌜ numberOf r ≡ checkLag start c lag ⌝ }
 {
     if start != 0 {
@@ -126,38 +105,26 @@ pub fn check_lag(start: u32, c: u32, lag: u32) -> Number
     Number::Accepted
 }
 
-pub fn check_filter(f: Filter) -> Number
-    ensures { λ r. ⌜ numberOf r ≡ checkFilter f ⌝ }
-{
-    unless(filter_fits(f), Number::BadFilter)
-}
-
-pub fn check_history(n: usize) -> Number
-    ensures { λ r. ⌜ numberOf r ≡ checkHistory n ⌝ }
-{
-    unless(n == history::WHOLE, Number::BadHistory)
-}
-
-pub fn check_pcm(needed: usize, p: usize) -> Number
-    ensures { λ r. ⌜ numberOf r ≡ checkPcm needed p ⌝ }
-{
-    unless(needed <= p, Number::ShortPcm)
-}
-
 // A state and its history's length.
 pub fn check_state(s: State, n: usize) -> Number
     ensures { λ r. ⌜ numberOf r ≡ refusesState s n ⌝ }
 {
     let k = s.settings;
-    let filter = or_else(check_filter(s.filter), check_history(n));
-    let lag = or_else(check_lag(k.start, s.loss_count, s.lag), filter);
-    let count = or_else(check_count(s.loss_count), lag);
-    or_else(check_settings(k), count)
+    let settings = check_settings(k);
+    let count = unless(s.loss_count != COUNT_FULL, Number::CountFull);
+    let lag = check_lag(k.start, s.loss_count, s.lag);
+    let filter = unless(filter_fits(s.filter), Number::BadFilter);
+    let history = unless(n == history::WHOLE, Number::BadHistory);
+    or_else(
+        settings,
+        or_else(count, or_else(lag, or_else(filter, history))),
+    )
 }
 
 // The first number that applies to a state, its history's length and a PCM buffer's length.
 pub fn first_refusal(s: State, n: usize, p: usize) -> Number
     ensures { λ r. ⌜ numberOf r ≡ refusal s n p ⌝ }
 {
-    or_else(check_state(s, n), check_pcm(needed_samples(s.settings), p))
+    let pcm = unless(needed_samples(s.settings) <= p, Number::ShortPcm);
+    or_else(check_state(s, n), pcm)
 }

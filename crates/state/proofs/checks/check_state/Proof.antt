@@ -4,29 +4,32 @@ use borrow.Author.Needs.{needs}
 use Rattle.state.proofs.checks.check_state.Statement.{statement}
 use Rattle.state.proofs.checks.check_state.Tie as tie
 
-check-filter-requires : tie.Need-check-filter-requires
-check-filter-requires c κs = search needs
+check-settings-requires : tie.Need-check-settings-requires
+check-settings-requires c κs = search needs
 
-check-history-requires : tie.Need-check-history-requires
-check-history-requires c κs = search needs
-
-or-else-requires : tie.Need-or-else-requires
-or-else-requires c κs = search needs
+unless-requires : tie.Need-unless-requires
+unless-requires c κs = search needs
 
 check-lag-requires : tie.Need-check-lag-requires
 check-lag-requires c κs = search needs
 
+filter-fits-requires : tie.Need-filter-fits-requires
+filter-fits-requires c κs = search needs
+
+unless-requires-2 : tie.Need-unless-requires-2
+unless-requires-2 c κs = search needs
+
+unless-requires-3 : tie.Need-unless-requires-3
+unless-requires-3 c κs = search needs
+
+or-else-requires : tie.Need-or-else-requires
+or-else-requires c κs = search needs
+
 or-else-requires-2 : tie.Need-or-else-requires-2
 or-else-requires-2 c κs = search needs
 
-check-count-requires : tie.Need-check-count-requires
-check-count-requires c κs = search needs
-
 or-else-requires-3 : tie.Need-or-else-requires-3
 or-else-requires-3 c κs = search needs
-
-check-settings-requires : tie.Need-check-settings-requires
-check-settings-requires c κs = search needs
 
 or-else-requires-4 : tie.Need-or-else-requires-4
 or-else-requires-4 c κs = search needs
@@ -39,13 +42,14 @@ pub check-state-spec : {M : Type 1} → statement M
 check-state-spec =
     tie.close
     (tie.spec
-    check-filter-requires
-    check-history-requires
-    or-else-requires
-    check-lag-requires
-    or-else-requires-2
-    check-count-requires
-    or-else-requires-3
     check-settings-requires
+    unless-requires
+    check-lag-requires
+    filter-fits-requires
+    unless-requires-2
+    unless-requires-3
+    or-else-requires
+    or-else-requires-2
+    or-else-requires-3
     or-else-requires-4
     returns)

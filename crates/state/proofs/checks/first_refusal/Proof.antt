@@ -4,14 +4,14 @@ use borrow.Author.Needs.{needs}
 use Rattle.state.proofs.checks.first_refusal.Statement.{statement}
 use Rattle.state.proofs.checks.first_refusal.Tie as tie
 
-check-state-requires : tie.Need-check-state-requires
-check-state-requires c κs = search needs
-
 needed-samples-requires : tie.Need-needed-samples-requires
 needed-samples-requires c κs = search needs
 
-check-pcm-requires : tie.Need-check-pcm-requires
-check-pcm-requires c κs = search needs
+unless-requires : tie.Need-unless-requires
+unless-requires c κs = search needs
+
+check-state-requires : tie.Need-check-state-requires
+check-state-requires c κs = search needs
 
 or-else-requires : tie.Need-or-else-requires
 or-else-requires c κs = search needs
@@ -24,8 +24,8 @@ pub first-refusal-spec : {M : Type 1} → statement M
 first-refusal-spec =
     tie.close
     (tie.spec
-    check-state-requires
     needed-samples-requires
-    check-pcm-requires
+    unless-requires
+    check-state-requires
     or-else-requires
     returns)
