@@ -14,6 +14,7 @@ use Rattle.post_filter.specs.declared.Filter.{Filter}
 use Rattle.fold.specs.Roll.{movedBack}
 use Rattle.fold.specs.Fold.{folded}
 use Rattle.extrapolate.specs.Extrapolate.{extrapolated}
+use Rattle.pitch_loss.specs.PitchLoss.{extra}
 
 -- y[i] += g0 × y[a] + g1 × (y[a - 1] + y[a + 1]) + g2 × (y[a - 2] + y[a + 2]), one period t back, in place: later samples read filtered ones
 unfoldable pub combTurn : ℕ → Float → Float → Float → List Float → ℕ → List Float
@@ -45,4 +46,4 @@ framed n e x f =
     preFilteredEnd f (put (half - n) n (take n e) blended)
 
 unfoldable pub forwardTail : ℕ → Tail → ℕ → Bool → List Float → Filter → Tail
-forwardTail n t lag first c f = tailOf (framed n (extrapolated (n + (overlap + overlap)) (t .new) lag first c) (tailList t) f)
+forwardTail n t lag first c f = tailOf (framed n (extrapolated (n + extra) (t .new) lag first c) (tailList t) f)
