@@ -1,2 +1,2 @@
 mod Laws
-mod Calls
+pub mod Channels
