@@ -1,0 +1,4 @@
+mod Keep
+mod Noise
+pub mod Limits
+pub mod Marked
