@@ -19,8 +19,8 @@ fn say_cut(whole: u64) {
 
 // What is left past the last whole record, n bytes.
 fn answer_rest(n: usize, whole: u64) {
-    let mut head = [0u8; 7692];
-    let cut = record::answer::answer_tail(n, &mut head);
+    let mut head = [0u8; answer::HEAD_BYTES];
+    let cut = answer::answer_tail(n, &mut head);
     if cut > 0 {
         say_cut(whole);
         written(&head[..cut]);
@@ -28,8 +28,8 @@ fn answer_rest(n: usize, whole: u64) {
 }
 
 fn answer_whole(rec: &mut [u8]) -> bool {
-    let mut head = [0u8; 7692];
-    let n = record::answer::answer_record(rec, &mut head);
+    let mut head = [0u8; answer::HEAD_BYTES];
+    let n = answer::answer_record(rec, &mut head);
     if !written(&head[..n]) {
         return false;
     }
@@ -38,13 +38,13 @@ fn answer_whole(rec: &mut [u8]) -> bool {
 
 // Reads and answers one record; false where there is no more to answer, and where reading or writing failed.
 fn conceal_one(whole: u64) -> bool {
-    let mut rec = [0u8; 17988];
+    let mut rec = [0u8; record::BYTES];
     let got = streams::fill(&mut rec);
     if got.failed {
         os::fail(b"conceal: input cannot be read");
         return false;
     }
-    if got.bytes < 17988 {
+    if got.bytes < record::BYTES {
         answer_rest(got.bytes, whole);
         return false;
     }

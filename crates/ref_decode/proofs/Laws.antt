@@ -1,77 +1,48 @@
--- What the limits ask of the inner steps.
-use mathlib.Core.Path.{_≡_, refl}
-use mathlib.Core.Bool.{Bool, true, false, cond}
-use mathlib.Core.List.{List}
-use Prim.Native.Nat.{ℕ, _+_, _*_, _-_, _≤_}
+-- What is asked of the noise path's steps.
+use mathlib.Core.Path.{_≡_, refl, ap, sym, _∙_}
+use mathlib.Core.Bool.{Bool}
+use mathlib.Core.List.{List, _++_}
+use Prim.Native.Nat.{ℕ, _+_, _*_, _-_, _≤_, _<_}
 use native.Mathlib.Omega.{arith}
-use lib.ListN.{length}
-use lib.Seq.{slice}
-use lib.Dec.{eqb}
+use lib.ListN.{length, take, drop}
+use lib.Seq.{slice, length-take-le, drop-at}
 use lib.Ieee.{Float}
-use Rattle.plc_pitch.specs.SearchLaws.{offset-le}
-use Rattle.plc_pitch.specs.Downsample.{pitchDownsample, pitchDownsamplePair}
-use Rattle.pitch_loss.specs.Tail.{Tail}
-use Rattle.pitch_loss.specs.Overlap.{length-rolled}
-use Rattle.pitch_loss.specs.Loss.{tailAfter, length-samples, length-over}
-use Rattle.noise_loss.specs.Block.{length-block, block-seed}
+use Rattle.loops.specs.Logic.{cond-either}
+use Rattle.custom_mode.specs.Mode.{bands, lastEdge}
+use Rattle.history.specs.History.{half, overlap, Tail, Tails}
+use Rattle.history.proofs.Parts.{TailSized, Sized}
 use Rattle.band_quant.specs.Draw.{draws}
-use Rattle.ref_decode.specs.State.{frame, stereo, factor, firstBin, numberOf}
-use Rattle.ref_decode.specs.Refusal.{refusedWith}
-use Rattle.ref_decode.specs.Steps.{lagOf, pitch, block}
-use Rattle.pitch_loss.specs.declared.Filter.{Filter}
-use Rattle.ref_decode.specs.declared.state.Settings.{Settings}
-use Rattle.ref_decode.specs.declared.state.Verdict.{Verdict}
-use Rattle.ref_decode.specs.declared.state.Verdict.the-variants.{Pitch, Noise, BadHistory, ShortPcm}
+use Rattle.state.specs.Settings.{factor, frame, firstBin, stereo, checkSettings}
+use Rattle.state.specs.declared.Settings.{Settings}
+use Rattle.state.proofs.Passed.{frame-low, frame-high}
+use Rattle.noise_block.specs.Block.{length-block, block-seed}
+use Rattle.noise_loss.specs.Cover.{overlapped, coveredTail, length-covered-new, length-covered-over}
+use Rattle.noise_loss.specs.Loss.{Blocks, channelBlock, noiseBlocks, noiseTails}
 
-pub lag-low : (k : Settings) (h : List Float) → 102 ≤ lagOf k h
-unfolding lagOf
-lag-low k h =
-    omega
-    (arith, offset-le (cond (stereo k) (pitchDownsamplePair (slice 0 2048 h) (slice 2168 4216 h)) (pitchDownsample (slice 0 2048 h))))
-
-pub lag-high : (k : Settings) (h : List Float) → lagOf k h ≤ 720
-unfolding lagOf
-lag-high k h = omega arith
-
-pub pitch-over : (k : Settings) (t : Tail) (lag : ℕ) (first : Bool) (c : List Float) (f : Filter) → length ((pitch k t lag first c f) .over) ≡ 120
-unfolding tailAfter
-pitch-over k t lag first c f = length-over (frame k) t lag first c f
-
-pub pitch-new : (k : Settings) (t : Tail) (lag : ℕ) (first : Bool) (c : List Float) (f : Filter) → frame k ≤ length (t .new)
-    → length ((pitch k t lag first c f) .new) ≡ length (t .new)
-unfolding tailAfter
-pitch-new k t lag first c f h = length-rolled (frame k) _ (t .new) (length-samples (frame k) t lag first c f) h
-
-pub block-samples : (k : Settings) (seed : ℕ) (e : List Float) → length ((block k seed e) .samples) ≡ frame k + 120
-unfolding frame
+pub block-samples : (k : Settings) (seed : ℕ) (e : List Float) → length (channelBlock k seed e .samples) ≡ frame k + overlap
+unfolding channelBlock frame
 block-samples k seed e = length-block (factor k) (k .start) (k .end) (k .downsample) seed e
 
-pub block-draws : (k : Settings) (seed : ℕ) (e : List Float) → k .start ≤ 20 → (block k seed e) .seed ≡ draws (factor k * (100 - firstBin k)) seed
-unfolding firstBin
+pub block-draws : (k : Settings) (seed : ℕ) (e : List Float) → k .start < bands → channelBlock k seed e .seed ≡ draws (factor k * (lastEdge - firstBin k)) seed
+unfolding channelBlock firstBin
 block-draws k seed e l = block-seed (factor k) (k .start) (k .end) (k .downsample) seed e (omega arith)
 
--- a refusal's number is not 0
-pub cond-either : {A : Type 0} (P : A → Type 0) (b : Bool) (x y : A) → P x → P y → P (cond b x y)
-cond-either P true x y p q = p
-cond-either P false x y p q = q
+-- what a noise block leaves as the newest n
+pub covered-newest : (n : ℕ) (b : List Float) (t : Tail) → n ≤ half → length (t .new) ≡ half
+    → drop (half - n) (coveredTail n b t .new) ≡ overlapped b (t .over) ++ slice overlap n b
+unfolding coveredTail
+covered-newest n b t l z = drop-at (take (half - n) (t .new)) _ (half - n) (length-take-le (half - n) (t .new) (omega arith))
 
-Refuses : Verdict → Type 0
-Refuses v = eqb (numberOf v) 0 ≡ false
+module _ (k : Settings) (good : checkSettings k ≡ 0) where
+  covered-sized : (b : List Float) (t : Tail) → length b ≡ frame k + overlap → TailSized t → TailSized (coveredTail (frame k) b t)
+  covered-sized b t l z =
+      let low = frame-low k good in
+      let high : frame k ≤ half = omega (arith, frame-high k good) in
+      record { new = length-covered-new (frame k) b t low high l (z .new); over = length-covered-over (frame k) b t low high l }
 
-pub refused-number : (n : ℕ) → eqb (numberOf (refusedWith n)) 0 ≡ false
-unfolding refusedWith Refuses
-refused-number n =
-    cond-either Refuses (eqb n 1) _ _ refl
-    (cond-either Refuses (eqb n 2) _ _ refl
-    (cond-either Refuses (eqb n 3) _ _ refl
-    (cond-either Refuses (eqb n 4) _ _ refl
-    (cond-either Refuses (eqb n 5) _ _ refl
-    (cond-either Refuses (eqb n 6) _ _ refl
-    (cond-either Refuses (eqb n 7) _ _ refl
-    (cond-either Refuses (eqb n 8) _ _ refl
-    (cond-either Refuses (eqb n 9) BadHistory ShortPcm refl refl))))))))
-
--- an accepted loss's number is 0
-pub accepted-number : (b : Bool) (n : ℕ) → numberOf (cond b (Noise n) (Pitch n)) ≡ 0
-accepted-number true n = refl
-accepted-number false n = refl
+  pub noises-sized : (two : Bool) (seed : ℕ) (e : List Float) (t : Tails) → Sized t → Sized (noiseTails two (frame k) (noiseBlocks k seed e) t)
+  unfolding noiseTails noiseBlocks
+  noises-sized two seed e t z = record {
+    first = covered-sized _ (t .first) (block-samples k _ _) (z .first);
+    second = cond-either TailSized two _ (t .second) (covered-sized _ (t .second) (block-samples k _ _) (z .second)) (z .second);
+  }

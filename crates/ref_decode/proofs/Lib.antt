@@ -1,11 +1,6 @@
+mod Frames
+pub mod Paths
+mod Entry
 pub mod Laws
-pub mod Table
-pub mod Parts
 pub mod Keep
-pub mod Limits
-pub mod Channels
-pub mod Voices
-pub mod Pitches
-pub mod Noises
-pub mod Entry
 pub mod Samples

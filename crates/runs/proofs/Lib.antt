@@ -1,4 +1,3 @@
-mod Keep
 mod Noise
 pub mod Limits
 pub mod Marked

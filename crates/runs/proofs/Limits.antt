@@ -24,7 +24,7 @@ use Rattle.noise_loss.specs.Loss.{Blocks, noiseSeed}
 use Rattle.ref_decode.specs.declared.Made.{Made}
 use Rattle.ref_decode.specs.Loss.{Outcome, lowered, blocks, noiseMade, pitchMade, made, tailsAfter, historyAfter, frameSound, finish, concealed, refused, answered, loss}
 use Rattle.runs.specs.Run.{Call, called, run, lastState, lastHistory, noiseCount, noiseLosses, EachCall, SameButOldest, ahead, SameAhead, Limited}
-use Rattle.runs.proofs.Keep.{after-tails, ok-after}
+use Rattle.ref_decode.proofs.Keep.{after-tails, ok-after}
 use Rattle.runs.proofs.Noise.{heard, heard-same, newOver, newOverTwo, noise-ahead, noise-over, noise-over-two, noise-draws}
 
 -- a refused call is no noise loss

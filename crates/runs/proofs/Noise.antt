@@ -5,35 +5,31 @@ use mathlib.Core.List.{List, [], _∷_, _++_}
 use Prim.Native.Nat.{ℕ, _+_, _*_, _-_, _≤_}
 use native.Mathlib.Omega.{arith}
 use native.Mathlib.Nat.{mul-assoc, one-mul}
-use lib.ListN.{length, take, drop}
-use lib.Seq.{slice, length-take-le, drop-at}
+use lib.ListN.{drop}
+use lib.Seq.{slice}
 use lib.Ieee.{Float}
 use lib.Dec.{eqb}
 use borrow.Author.Tests.{eqb-true, eqb-false}
 use Rattle.band_quant.specs.Draw.{draws, draws-add}
 use Rattle.custom_mode.specs.Mode.{lastEdge}
 use Rattle.history.specs.History.{half, overlap, Tail, Tails, tails, both}
-use Rattle.history.proofs.Parts.{TailSized, tails-sized, newest-tails}
+use Rattle.history.proofs.Parts.{tails-sized, newest-tails}
 use Rattle.state.specs.Settings.{factor, frame, stereo, firstBin, drawsPerLoss, checkSettings}
 use Rattle.state.specs.State.{Core, core, noisy}
 use Rattle.state.specs.declared.Settings.{Settings}
 use Rattle.state.specs.declared.State.{State}
 use Rattle.state.proofs.Passed.{passed, frame-high}
 use Rattle.state.proofs.Keep.{Ok}
-use Rattle.noise_block.specs.Block.{Block, block-seed}
 use Rattle.noise_loss.specs.Cover.{overlapped, coveredTail}
-use Rattle.noise_loss.specs.Loss.{channelBlock, Blocks, noiseBlocks, noiseSeed, noiseTails}
+use Rattle.noise_loss.specs.Loss.{noiseBlocks, noiseSeed, noiseTails}
 use Rattle.ref_decode.specs.Loss.{blocks, made, tailsByNoise, tailsByPitch, tailsAfter, historyAfter}
 use Rattle.runs.specs.Run.{ahead}
-use Rattle.runs.proofs.Keep.{after-tails}
+use Rattle.ref_decode.proofs.Keep.{after-tails}
+use Rattle.ref_decode.proofs.Laws.{block-draws, covered-newest}
 
 -- a block of n + 120 samples laid over an old overlap
 laidOver : ℕ → List Float → List Float → List Float
 laidOver n block over = overlapped block over ++ slice overlap n block
-
-covered-newest : (n : ℕ) (block : List Float) (t : Tail) → n ≤ half → TailSized t → drop (half - n) (coveredTail n block t .new) ≡ laidOver n block (t .over)
-unfolding coveredTail laidOver
-covered-newest n block t h z = drop-at (take (half - n) (t .new)) _ (half - n) (length-take-le (half - n) (t .new) (omega (arith, z .new)))
 
 -- the samples of a noise loss, from the core and the old overlaps
 pub heard : Core → List Float → List Float → List (List Float)
@@ -65,7 +61,7 @@ module _ (s : State) (h : List Float) (o : Ok s h) (z : noisy (core s) ≡ true)
   noise-tails = after-tails s h o ∙ ap (λ b. cond b (tailsByNoise s (tails h)) (tailsByPitch s (made s h) (tails h))) z
 
   pub noise-ahead : ahead (s .settings) (historyAfter s h) ≡ heard (core s) ((tails h) .first .over) ((tails h) .second .over)
-  unfolding heard noiseTails
+  unfolding heard laidOver noiseTails
   noise-ahead =
       let k = s .settings in
       let n = frame k in
@@ -74,9 +70,9 @@ module _ (s : State) (h : List Float) (o : Ok s h) (z : noisy (core s) ≡ true)
       newest-tails (stereo k) n (historyAfter s h) l
       ∙ ap (λ (t : Tails). both (stereo k) (drop (half - n) (t .first .new)) (drop (half - n) (t .second .new))) noise-tails
       ∙ both-same (stereo k) _ _ _ _
-      (covered-newest n _ _ l (w .first))
+      (covered-newest n _ _ l (w .first .new))
       (λ b. ap (λ c. drop (half - n) ((cond c (coveredTail n (blocks (core s) .second .samples) ((tails h) .second)) ((tails h) .second)) .new)) b
-      ∙ covered-newest n _ _ l (w .second))
+      ∙ covered-newest n _ _ l (w .second .new))
 
   pub noise-over : (tails (historyAfter s h)) .first .over ≡ newOver (core s)
   unfolding noiseTails coveredTail newOver
@@ -87,11 +83,6 @@ module _ (s : State) (h : List Float) (o : Ok s h) (z : noisy (core s) ≡ true)
   noise-over-two b =
       ap (λ (t : Tails). t .second .over) noise-tails
       ∙ ap (λ c. (cond c (coveredTail (frame (s .settings)) (blocks (core s) .second .samples) ((tails h) .second)) ((tails h) .second)) .over) b
-
--- the draws of one channel's block
-block-draws : (k : Settings) → checkSettings k ≡ 0 → (seed : ℕ) (e : List Float) → channelBlock k seed e .seed ≡ draws (factor k * (lastEdge - firstBin k)) seed
-unfolding channelBlock firstBin
-block-draws k good seed e = block-seed (factor k) (k .start) (k .end) (k .downsample) seed e (omega (arith, passed k good .start))
 
 -- the seed after a noise loss: its draws, whatever the energies
 module _ (k : Settings) (good : checkSettings k ≡ 0) (seed : ℕ) (energies : List Float) where
@@ -106,5 +97,5 @@ module _ (k : Settings) (good : checkSettings k ≡ 0) (seed : ℕ) (energies : 
   pub noise-draws : noiseSeed (stereo k) (noiseBlocks k seed energies) ≡ draws (drawsPerLoss k) seed
   unfolding noiseSeed noiseBlocks stereo drawsPerLoss
   noise-draws =
-      draws-by (factor k * (lastEdge - firstBin k)) (eqb (k .channels) 2) refl _ _ (block-draws k good _ _) (block-draws k good _ _)
+      draws-by (factor k * (lastEdge - firstBin k)) (eqb (k .channels) 2) refl _ _ (block-draws k _ _ (passed k good .start)) (block-draws k _ _ (passed k good .start))
       ∙ ap (λ n. draws n seed) (sym (mul-assoc (k .channels) (factor k) (lastEdge - firstBin k)))
