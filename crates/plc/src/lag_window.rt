@@ -8,10 +8,8 @@ ghost use Rattle.plc.specs.LagWindow.{lagValue, lagWindow};
 
 // The lags that f32 counts exactly, with room to spare.
 const MOST_LAGS: usize = 65536;
-
 // The correlation at lag 0 rises by a noise floor 40 dB below it.
 const FLOOR_FACTOR: f32 = 1.0001;
-
 // The window falls with the square of so much for each lag.
 const LAG_STEP: f32 = 0.008;
 
