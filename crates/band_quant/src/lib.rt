@@ -5,10 +5,12 @@ ghost use Rattle.band_quant.specs.Draw.{draw, draws};
 ghost use Rattle.band_quant.specs.Noise.{noiseBand};
 ghost use Rattle.band_quant.specs.Renormalise.{energy64, renormaliseVector};
 
-// The linear congruential generator's factor and addend.
+// The factor of the linear congruential generator.
 const MULTIPLIER: u32 = 1_664_525;
 
+// Its addend.
 const ADDEND: u32 = 1_013_904_223;
+
 // What a band's energy starts from, so that it is above zero.
 const FLOOR: f64 = 1e-15;
 

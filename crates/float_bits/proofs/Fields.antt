@@ -18,7 +18,8 @@ unfolding ofFields
 fields-val f s zero t h = subst (λ (a : ℕ). HasValue (odd (prec f) s t 0 (low f)) s a (2 ^ low f)) (mul-one t) (odd-sign (prec f) s t 0 (low f))
 fields-val f s (suc x) t h =
     subst (λ (v : Float). HasValue v s ((hid f + t) * 2 ^ x) (2 ^ low f))
-    (sym (cond-no (eqb (suc x) (ones f)) (cond (eqb t 0) (inf s) nan) (odd (prec f) s (hid f + t) x (low f)) (not-T (eqb (suc x) (ones f)) (λ (u : T (eqb (suc x) (ones f))). lt-irrefl (ones f) (subst (λ (z : ℕ). z < ones f) (eqb→eq (suc x) (ones f) u) h)))))
+    (sym (cond-no (eqb (suc x) (ones f)) (cond (eqb t 0) (inf s) nan) (odd (prec f) s (hid f + t) x (low f))
+    (not-T (eqb (suc x) (ones f)) (λ (u : T (eqb (suc x) (ones f))). lt-irrefl (ones f) (subst (λ (z : ℕ). z < ones f) (eqb→eq (suc x) (ones f) u) h)))))
     (odd-sign (prec f) s (hid f + t) x (low f))
 
 at-ones : (f : Format) (s : Bool) (t : ℕ) → T (not (isNan (ofFields f s (ones f) t))) → ofFields f s (ones f) t ≡ inf s

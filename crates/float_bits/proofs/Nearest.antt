@@ -62,7 +62,9 @@ module _ (q h : ℕ) (p : 0 < q) (g : 149 ≤ h) (l : q * 2 ^ h < 2 ^ 426) where
   few-left : (m k : ℕ) → m * (2 ^ k * 2 ^ k) ≡ q * 2 ^ h → 2 ^ 46 ≤ m → k ≤ 201
   few-left m k e lo =
       let b : 46 + (k + k) < 426 =
-      pow-lt-back (46 + (k + k)) 426 (lt-of-le-of-lt (le-trans (le-of-eq (pow-add 2 46 (k + k) ∙ ap (λ (z : ℕ). 2 ^ 46 * z) (pow-add 2 k k))) (le-trans (mul-le-mul-right (2 ^ k * 2 ^ k) lo) (le-of-eq e))) l) in
+      pow-lt-back (46 + (k + k)) 426
+      (lt-of-le-of-lt (le-trans (le-of-eq (pow-add 2 46 (k + k) ∙ ap (λ (z : ℕ). 2 ^ 46 * z) (pow-add 2 k k)))
+      (le-trans (mul-le-mul-right (2 ^ k * 2 ^ k) lo) (le-of-eq e))) l) in
       omega arith
 
   scaled : (m k : ℕ) → m * (2 ^ k * 2 ^ k) ≡ q * 2 ^ h → m < 2 ^ 48 → 2 ^ 46 ≤ m → Scaling (q * 2 ^ h)

@@ -2,7 +2,8 @@
 use mathlib.Core.Path.{_≡_, refl, sym, ap, _∙_, subst}
 use mathlib.Core.Logic.{_⊎_, inl, inr}
 use Prim.Native.Nat.{ℕ, zero, suc, _+_, _-_, _*_, _/_, _%_, _^_, _≤_, _<_, zero-le, compare}
-use native.Mathlib.Nat.{le-trans, le-of-lt, le-of-eq, lt-of-le-of-lt, lt-of-lt-of-le, lt-of-not-le, not-le-of-lt, eq-or-lt-of-le, mul-assoc, mul-one, mul-right-comm, mul-pos, mul-le-mul, mul-le-mul-right, mul-lt-mul-of-pos-right, lt-of-mul-lt-mul-right, mul-div-cancel, mod-lt, div-add-mod', pow-succ', mul-mul-mul-comm}
+use native.Mathlib.Nat.{le-trans, le-of-lt, le-of-eq, lt-of-le-of-lt, lt-of-lt-of-le, lt-of-not-le, not-le-of-lt, eq-or-lt-of-le, pow-succ', mul-mul-mul-comm}
+use native.Mathlib.Nat.{mul-assoc, mul-one, mul-right-comm, mul-pos, mul-le-mul, mul-le-mul-right, mul-lt-mul-of-pos-right, lt-of-mul-lt-mul-right, mul-div-cancel, mod-lt, div-add-mod'}
 use native.Mathlib.Omega.{arith}
 use mathlib.Core.Bool.{Bool, true, false, cond}
 use lib.Dec.{T, leb, eqb, lit<, lit≤}
@@ -124,7 +125,8 @@ halved : (t a : ℕ) → 2 * 2 ^ a ≤ t → t < 2 * 2 ^ suc a → size (t / 2) 
 halved t a lo hi = size-exact a (t / 2) (omega arith) (omega arith)
 
 -- q * 2 ^ k units, q nearest to √m and n = m * 4 ^ k, is what twice the root of n is rounded to
-module _ (n m w j : ℕ) (few : n < 4 ^ 213) (same : m * (2 ^ suc j * 2 ^ suc j) ≡ n) (lo : 2 ^ 46 ≤ m) (hi : m < 2 ^ 48) (under : (w + 1) * (w + 1) < m + (w + 1)) (over : m ≤ (w + 1) * (w + 1) + (w + 1)) where
+module _ (n m w j : ℕ) (few : n < 4 ^ 213) (same : m * (2 ^ suc j * 2 ^ suc j) ≡ n) (lo : 2 ^ 46 ≤ m) (hi : m < 2 ^ 48)
+    (under : (w + 1) * (w + 1) < m + (w + 1)) (over : m ≤ (w + 1) * (w + 1) + (w + 1)) where
   same' : m * (2 * 2 ^ j * (2 * 2 ^ j)) ≡ n
   same' = ap (λ (z : ℕ). m * (z * z)) (sym (pow-succ' 2 j)) ∙ same
 
@@ -166,7 +168,8 @@ pub root-rounds : (n r : ℕ) → n < 4 ^ 213 → 2 ^ 149 ≤ n → RootBits n r
 root-rounds n r few big w =
     go (w .k) (w .q) (w .scaled .same) (w .low) (w .high) (w .under) (w .over) (w .scaled .few) (w .is)
   where
-    go : (k q : ℕ) → w .m * (2 ^ k * 2 ^ k) ≡ n → 2 ^ 23 ≤ q → q ≤ 2 ^ 24 → q * q < w .m + q → w .m ≤ q * q + q → k ≤ 201 → k * 2 ^ 23 + q ≡ r → round binary32 false (twiceRoot n) (2 ^ 150) ≡ ofBits binary32 r
+    go : (k q : ℕ) → w .m * (2 ^ k * 2 ^ k) ≡ n → 2 ^ 23 ≤ q → q ≤ 2 ^ 24 → q * q < w .m + q → w .m ≤ q * q + q → k ≤ 201 → k * 2 ^ 23 + q ≡ r
+        → round binary32 false (twiceRoot n) (2 ^ 150) ≡ ofBits binary32 r
     go zero q s lo hi u o f e = absurd (not-le-of-lt (lt-of-lt-of-le (w .scaled .high) (lit≤ tt)) (le-trans big (le-of-eq (sym s ∙ mul-one (w .m)))))
     go (suc j) q s lo hi u o f e =
         let p : q ≡ (q - 1) + 1 = omega arith in

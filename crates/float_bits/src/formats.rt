@@ -1,7 +1,7 @@
 // From one float format to the other.
 ghost use mathlib.Core.Path.{_≡_};
 ghost use mathlib.Core.Bool.{not};
-ghost use Prim.Native.Nat.{ℕ, _+_, _*_, _/_, _%_, _<_, _≤_, _^_};
+ghost use Prim.Native.Nat.{_+_, _*_, _/_, _%_, _<_, _≤_, _^_};
 ghost use lib.Dec.{T};
 ghost use lib.Ieee.{binary32, binary64, isNan, ofBits, toBits};
 ghost use lib.Ieee.Nearest.{closest};

@@ -1,6 +1,6 @@
 // The f32 square root.
 ghost use mathlib.Core.Path.{_≡_};
-ghost use Prim.Native.Nat.{ℕ, _+_, _*_, _/_, _%_, _<_, _≤_, _^_};
+ghost use Prim.Native.Nat.{_+_, _*_, _/_, _%_, _<_, _≤_, _^_};
 ghost use lib.Ieee.{binary32};
 ghost use Rattle.float_bits.specs.Root.{sqrtOf};
 ghost use Rattle.float_bits.specs.Steps.{ScaledTo, RootBits, significand};

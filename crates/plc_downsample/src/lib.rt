@@ -7,12 +7,15 @@ ghost use Rattle.plc_downsample.specs.Downsample.{smoothedAt, smoothed, 
 ghost use Rattle.plc_downsample.specs.Downsample.{downsampleTakes, pitchDownsample, downsamplePairTakes, pitchDownsamplePair};
 use plc::lag_window::lag_window;
 
-// The samples of a channel's history, and half as many.
+// The samples of a channel's history.
 const SAMPLES: usize = 2048;
 
+// The samples at half rate.
 const HALF: usize = 1024;
+
 // What each coefficient of the predictor is damped by, once more than the one before it.
 const DAMPING: f32 = 0.9;
+
 // The zero that the whitening filter has besides.
 const TILT: f32 = 0.8;
 
@@ -21,6 +24,7 @@ pub struct Downsampled {
     pub taken: bool,
 }
 
+// Sample i at half rate: half of sample 2 i and a quarter of each neighbour.
 fn smooth_at(x: &[f32], i: usize) -> f32
     requires { ⌜ (length (now x) ≡ 2048) × (i < 1024) ⌝ }
     ensures { λ r. ⌜ r ≡ smoothedAt (now (x .entry)) i ⌝ }
@@ -31,6 +35,7 @@ fn smooth_at(x: &[f32], i: usize) -> f32
     0.5 * (0.5 * (x[2 * i - 1] + x[2 * i + 1]) + x[2 * i])
 }
 
+// One channel at half rate.
 fn smooth(x: &[f32], x_lp: &mut [f32])
     requires { ⌜ (length (now x) ≡ 2048) × (length (now «x_lp») ≡ 1024) ⌝ }
     ensures { λ _. ⌜ now («x_lp» .exit) ≡ smoothed (now (x .entry)) ⌝ }
@@ -40,6 +45,7 @@ fn smooth(x: &[f32], x_lp: &mut [f32])
     }
 }
 
+// Two channels at half rate, summed.
 fn smooth_pair(x0: &[f32], x1: &[f32], x_lp: &mut [f32])
     requires { ⌜ (length (now x0) ≡ 2048) × (length (now x1) ≡ 2048) × (length (now «x_lp») ≡ 1024) ⌝ }
     ensures { λ _. ⌜ now («x_lp» .exit) ≡ smoothedPair (now (x0 .entry)) (now (x1 .entry)) ⌝ }
@@ -73,6 +79,7 @@ fn whitening(lp: &[f32; 1024]) -> [f32; 4]
     lpc
 }
 
+// Whitens the samples by their own predictor.
 fn whiten(x_lp: &mut [f32])
     requires { ⌜ length (now «x_lp») ≡ 1024 ⌝ }
     ensures { λ _. ⌜ now («x_lp» .exit) ≡ whitenLp (now («x_lp» .entry)) ⌝ }

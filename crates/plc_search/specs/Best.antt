@@ -24,9 +24,7 @@ firstEnergy y n = sumTo binary32 (squareAt y) one32 n
 -- the energy one sample on: the newest square in, the oldest out, at least 1
 unfoldable pub nextEnergy : List Float → ℕ → Float → ℕ → Float
 nextEnergy y len syy i =
-    maxOf
-    (add binary32 syy (sub binary32 (squareAt y (i + len)) (squareAt y i)))
-    one32
+    maxOf (add binary32 syy (sub binary32 (squareAt y (i + len)) (squareAt y i))) one32
 
 -- a candidate becomes the best, the second best, or neither
 unfoldable pub ranked : Best → Float → Float → ℕ → Best

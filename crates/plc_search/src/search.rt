@@ -9,23 +9,31 @@ ghost use Rattle.plc_search.specs.Rows.{nearRow, nearOr};
 use crate::best::Best;
 use crate::best::two_best;
 
-// At half rate: where the part that is compared starts, and how long it is.
+// At half rate: where the newest samples, which are compared, start.
 const LATER: usize = 360;
 
+// How many they are.
 const COMPARED: usize = 664;
-// The same at quarter rate, with the places that each sweep compares.
+
+// How many places they are compared with.
+const PLACES: usize = 310;
+
+// At quarter rate: how many samples are compared.
 const COMPARED4: usize = 332;
 
-const SAMPLES4: usize = 487;
-
+// How many places they are compared with.
 const PLACES4: usize = 155;
 
-const PLACES: usize = 310;
-// The first and the last place have one neighbour and stay.
+// How many samples these places reach.
+const SAMPLES4: usize = 487;
+
+// The last place: like the first it has one neighbour, and stays.
 const LAST: usize = 309;
-// The largest offset.
+
+// The largest offset, twice the last place.
 const MOST: usize = 618;
-// How close a neighbour has to come.
+
+// A neighbour is close where it stands above the other by more than this part of what the place itself does.
 const CLOSE: f32 = 0.7;
 
 // Every second sample.
