@@ -2,7 +2,9 @@
 use mathlib.Core.Path.{_≡_, refl, ap, _∙_, sym, subst}
 use mathlib.Core.Bool.{Bool, true, false, cond, _&&_}
 use Prim.Native.Nat.{ℕ, zero, suc, _+_, _*_, _-_, _/_, _%_, _^_, _≤_, _<_}
-use native.Mathlib.Nat.{lt-irrefl, add-zero, mul-mod-left, mul-le-mul-left, mul-lt-mul-of-pos-left, mul-assoc, mul-comm, mul-one, one-mul, mul-right-comm, mul-left-comm, lt-of-lt-of-le, lt-of-le-of-lt, le-trans, div-add-mod', lt-of-mul-lt-mul-right, mul-lt-mul-of-pos-right, le-of-mul-le-mul-right, mul-le-mul-right, eq-of-mul-eq-mul-right}
+use native.Mathlib.Nat.{lt-irrefl, add-zero, mul-mod-left, mul-le-mul-left, mul-lt-mul-of-pos-left, mul-assoc, mul-comm, mul-one, one-mul}
+use native.Mathlib.Nat.{mul-right-comm, mul-left-comm, lt-of-lt-of-le, lt-of-le-of-lt, le-trans, div-add-mod', lt-of-mul-lt-mul-right}
+use native.Mathlib.Nat.{mul-lt-mul-of-pos-right, le-of-mul-le-mul-right, mul-le-mul-right, eq-of-mul-eq-mul-right}
 use native.Mathlib.Omega.{arith}
 use lib.IntN.{ℤ, pos, negsuc}
 use lib.Dec.{T, leb, ltb, eqb, lit<, lit≤, ltb→lt, leb→le}
@@ -12,7 +14,7 @@ use lib.Ieee.{Float, nan, inf, fin, binary32, binary64, up, down, fits, ofBits, 
 use lib.Ieee.Exact.{HasValue, round-exact}
 use lib.Ieee.Fits.{down-pos, and-l, and-r}
 use lib.Ieee.Nearest.{div-same}
-use Rattle.custom_mode.specs.Gain.{floorFrom, steps, Within}
+use Rattle.custom_mode.specs.Gain.{floorFrom, steps, GainRange}
 
 -- ---- 256 * x is exact
 
@@ -88,8 +90,10 @@ module _ (s : Bool) (m : ℕ) (e : ℤ) (t : T (fits binary32 (fin s m e))) (b :
       subst (λ z. HasValue (round binary64 (unlike false s) (256 * (m * up e)) z) s (256 * (m * up e)) (down e)) (sym (one-mul (down e)))
       (subst (λ z. HasValue (round binary64 z (256 * (m * up e)) (down e)) s (256 * (m * up e)) (down e)) (sym (same s))
       (round-exact binary64 s (256 * (m * up e)) (down e) m (j + 8) (down-pos e) (lt-of-lt-of-le (small s m e t .0) (lit≤ tt))
-      (lt-of-lt-of-le (subst (λ z. m * z < 2 ^ 1090) (sym (pow-add 2 j 8)) (subst (λ z. z < 2 ^ 1090) (mul-assoc m (2 ^ j) (2 ^ 8)) (shl-lt 1082 8 fewer))) (pow-mono {i = 1090} {j = 2098} (lit≤ tt)))
-      (regroup m (up e) (2 ^ 1074) ∙ ap (λ z. 256 * (m * z)) is ∙ spread m (2 ^ j) (down e) ∙ ap (λ z. m * z * (1 * down e)) (sym (pow-add 2 j 8)) ∙ ap (λ z. m * 2 ^ (j + 8) * z) (one-mul (down e)))))
+      (lt-of-lt-of-le (subst (λ z. m * z < 2 ^ 1090) (sym (pow-add 2 j 8)) (subst (λ z. z < 2 ^ 1090) (mul-assoc m (2 ^ j) (2 ^ 8)) (shl-lt 1082 8 fewer)))
+      (pow-mono {i = 1090} {j = 2098} (lit≤ tt)))
+      (regroup m (up e) (2 ^ 1074) ∙ ap (λ z. 256 * (m * z)) is ∙ spread m (2 ^ j) (down e)
+      ∙ ap (λ z. m * z * (1 * down e)) (sym (pow-add 2 j 8)) ∙ ap (λ z. m * 2 ^ (j + 8) * z) (one-mul (down e)))))
     where
       same : (s : Bool) → unlike false s ≡ s
       same true = refl
@@ -147,11 +151,13 @@ finer (fin false m e) s a d D v h = (
   le-cross (m * up e) d a 32 (down e) D (v .1) (h .0 (sym (v .0))),
 )
 
-pub fine : (x : Float) → T (fits binary32 x) → Within x → Fine (product x) (steps x)
+pub fine : (x : Float) → T (fits binary32 x) → GainRange x → Fine (product x) (steps x)
 unfolding steps
 fine nan t h = absurd h
 fine (inf s) t h = absurd h
 fine (fin true m e) t h =
-    finer (product (fin true m e)) true (m * up e) (down e) (down-pos e) (wide-value true m e t (lt-of-lt-of-le h (mul-le-mul-right (down e) (lit≤ tt)))) ((λ z. let y : _≡_ {A = ℕ} 0 1 = cc in let b : ⊥ = omega arith in absurd b), (λ z. h))
+    finer (product (fin true m e)) true (m * up e) (down e) (down-pos e)
+    (wide-value true m e t (lt-of-lt-of-le h (mul-le-mul-right (down e) (lit≤ tt)))) ((λ z. let y : _≡_ {A = ℕ} 0 1 = cc in let b : ⊥ = omega arith in absurd b), (λ z. h))
 fine (fin false m e) t h =
-    finer (product (fin false m e)) false (m * up e) (down e) (down-pos e) (wide-value false m e t (lt-of-le-of-lt h (mul-lt-mul-of-pos-right (lit< tt) (down-pos e)))) ((λ z. h), (λ z. let y : _≡_ {A = ℕ} 0 1 = cc in let b : ⊥ = omega arith in absurd b))
+    finer (product (fin false m e)) false (m * up e) (down e) (down-pos e)
+    (wide-value false m e t (lt-of-le-of-lt h (mul-lt-mul-of-pos-right (lit< tt) (down-pos e)))) ((λ z. h), (λ z. let y : _≡_ {A = ℕ} 0 1 = cc in let b : ⊥ = omega arith in absurd b))

@@ -12,7 +12,7 @@ use lib.Ieee.Bits.{ofBits-fits}
 use Rattle.loops.specs.Pick.{pick-true, pick-false}
 use Rattle.float_bits.specs.Extremes.{minOf}
 use Rattle.float_bits.specs.Formats.{narrow}
-use Rattle.custom_mode.specs.Gain.{Within, steps, power, series, gainAt, bandGain}
+use Rattle.custom_mode.specs.Gain.{GainRange, steps, power, series, gainAt, bandGain}
 
 abbrev lowest : Float
 lowest = neg (ofBits binary32 0x4316_0000)
@@ -63,7 +63,7 @@ not-inf : le (inf true) lowest ≡ false → ⊥
 unfolding le lt eq neg ofBits
 not-inf h = let y : true ≡ false = h in let z : _≡_ {A = ℕ} 0 1 = cc in omega arith
 
-within-min : (s : Float) → le (minOf s highest) lowest ≡ false → Within (minOf s highest)
+within-min : (s : Float) → le (minOf s highest) lowest ≡ false → GainRange (minOf s highest)
 unfolding minOf isNan lt ofBits
 within-min nan h = lit≤ tt
 within-min (inf true) h = not-inf h
@@ -71,9 +71,9 @@ within-min (inf false) h = lit≤ tt
 within-min (fin true m e) h = above-lowest m e h
 within-min (fin false m e) h = go (ltb (32 * down e) (m * up e * 1)) refl
   where
-    go : (b : Bool) → ltb (32 * down e) (m * up e * 1) ≡ b → Within (cond b highest (fin false m e))
+    go : (b : Bool) → ltb (32 * down e) (m * up e * 1) ≡ b → GainRange (cond b highest (fin false m e))
     go true f = lit≤ tt
     go false f = omega (arith, ltb-false (32 * down e) (m * up e * 1) f)
 
-pub within : (s x : Float) → x ≡ minOf s highest → le x lowest ≡ false → Within x
-within s x e h = subst Within (sym e) (within-min s (ap (λ z. le z lowest) (sym e) ∙ h))
+pub within : (s x : Float) → x ≡ minOf s highest → le x lowest ≡ false → GainRange x
+within s x e h = subst GainRange (sym e) (within-min s (ap (λ z. le z lowest) (sym e) ∙ h))

@@ -41,11 +41,11 @@ gainAt x q =
     narrow (mul binary64 (mul binary64 (power (q % 256)) (series y)) (fin false 1 (minus (q / 256) 150)))
 
 -- where `steps` is asked: above -150 and at most 32
-abbrev pub Within : Float → Type 0
-Within nan = ⊥
-Within (inf s) = ⊥
-Within (fin true m e) = m * up e < 150 * down e
-Within (fin false m e) = m * up e ≤ 32 * down e
+abbrev pub GainRange : Float → Type 0
+GainRange nan = ⊥
+GainRange (inf s) = ⊥
+GainRange (fin true m e) = m * up e < 150 * down e
+GainRange (fin false m e) = m * up e ≤ 32 * down e
 
 -- +0 for an x of at most -150
 unfoldable pub bandGain : Float → Float

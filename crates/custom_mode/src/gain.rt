@@ -4,7 +4,7 @@ ghost use mathlib.Core.Bool.{false};
 ghost use Prim.Native.Nat.{_+_, _*_, _/_, _%_, _<_, _≤_};
 ghost use lib.Dec.{T};
 ghost use lib.Ieee.{fin, minus, fits, ofInt, add, binary32, binary64};
-ghost use Rattle.custom_mode.specs.Gain.{steps, power, gainAt, gainOf, Within, series};
+ghost use Rattle.custom_mode.specs.Gain.{steps, power, gainAt, gainOf, GainRange, series};
 
 // 2 ^ (i / 256) to the nearest f64; i counts modulo 256.
 pub fn power_at(i: u64) -> f64
@@ -16,7 +16,7 @@ pub fn power_at(i: u64) -> f64
 
 // k + 38,400, where k is the greatest whole number not above 256 x.
 fn steps_of(x: f32) -> u64
-    requires { ⌜ Within x ⌝ }
+    requires { ⌜ GainRange x ⌝ }
     requires { ⌜ T (fits binary32 x) ⌝ }
     ensures { λ r. ⌜ (r ≡ steps x) × (r ≤ 46_592) ⌝ }
 {

@@ -52,13 +52,13 @@ length-imdct n xs = length-tab _ (2 * n)
 unfoldable pub isFrameSize : ℕ → Bool
 isFrameSize n = eqb n (120 * 2 ^ 0) || eqb n (120 * 2 ^ 1) || eqb n (120 * 2 ^ 2) || eqb n (120 * 2 ^ 3)
 
-pub frame-is : (lm : ℕ) → lm ≤ 3 → isFrameSize (120 * 2 ^ lm) ≡ true
+pub size-is-frame : (lm : ℕ) → lm ≤ 3 → isFrameSize (120 * 2 ^ lm) ≡ true
 unfolding isFrameSize
-frame-is zero h = refl
-frame-is (suc zero) h = refl
-frame-is (suc (suc zero)) h = refl
-frame-is (suc (suc (suc zero))) h = refl
-frame-is (suc (suc (suc (suc lm)))) h = let z : ⊥ = omega arith in absurd z
+size-is-frame zero h = refl
+size-is-frame (suc zero) h = refl
+size-is-frame (suc (suc zero)) h = refl
+size-is-frame (suc (suc (suc zero))) h = refl
+size-is-frame (suc (suc (suc (suc lm)))) h = let z : ⊥ = omega arith in absurd z
 
 -- whether imdct_naive_f32 takes n inputs and room for m outputs
 unfoldable pub imdctTakes : ℕ → ℕ → Bool

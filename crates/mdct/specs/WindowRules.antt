@@ -16,15 +16,15 @@ abbrev pub scaledWindow : ℕ → ℕ
 scaledWindow i = scaled 36 (getD window i nan)
 
 -- what entry i and the one opposite have of the power 1, times 2 ^ 72
-abbrev pub power : ℕ → ℕ
-power i = scaledWindow i * scaledWindow i + scaledWindow (119 - i) * scaledWindow (119 - i)
+abbrev pub pairPower : ℕ → ℕ
+pairPower i = scaledWindow i * scaledWindow i + scaledWindow (119 - i) * scaledWindow (119 - i)
 
 -- the entries rise, and the squares of an entry and of the one opposite add up to 1, to 2 ^ -23
 pub record WindowRules : Type 0 where
   pub exact : (i : ℕ) → i < 120 → T (isScaled 36 (getD window i nan))
   pub rises : (i : ℕ) → i < 119 → scaledWindow i < scaledWindow (suc i)
-  pub above : (i : ℕ) → i < 120 → power i ≤ 2 ^ 72 + 2 ^ 49
-  pub below : (i : ℕ) → i < 120 → 2 ^ 72 ≤ power i + 2 ^ 49
+  pub above : (i : ℕ) → i < 120 → pairPower i ≤ 2 ^ 72 + 2 ^ 49
+  pub below : (i : ℕ) → i < 120 → 2 ^ 72 ≤ pairPower i + 2 ^ 49
 
 -- ---- tests that antt computes over the whole table, and what they show of each entry
 

@@ -14,7 +14,7 @@ use Rattle.loops.specs.Front.{tab}
 use Rattle.loops.specs.Logic.{and-true, and-first, and-second}
 use Rattle.loops.specs.Reply.{reply, replyIf, reply-yes, reply-no}
 use Rattle.buffers.specs.Buffers.{zero32}
-use Rattle.mdct.specs.Imdct.{imdct, isFrameSize, frame-is, imdctTakes, imdctReply, takes, reply-outputs}
+use Rattle.mdct.specs.Imdct.{imdct, isFrameSize, size-is-frame, imdctTakes, imdctReply, takes, reply-outputs}
 use Rattle.noise_block.specs.Shape.{noiseShape}
 use Rattle.noise_block.specs.Spectrum.{gainTurn, bound, cleared, spectrum}
 use Rattle.noise_block.specs.Block.{windowed, Block, drawnBlock, noiseBlock}
@@ -92,7 +92,7 @@ fits lm start end d e =
     record { small = leb-true lm 3 (p .0); some = ltb-true start end (q .0); last = leb-true end 21 (r .0); every = leb-true 1 d (r .1) }
 
 pub frame-fits : (lm m : ℕ) → lm ≤ 3 → m ≡ 2 ^ lm → isFrameSize (120 * m) ≡ true
-frame-fits lm m h e = ap (λ z. isFrameSize (120 * z)) e ∙ frame-is lm h
+frame-fits lm m h e = ap (λ z. isFrameSize (120 * z)) e ∙ size-is-frame lm h
 
 module _ (lm start end d seed : ℕ) (energies buffer : List Float) where
   abbrev block-fits : Bool

@@ -13,12 +13,12 @@ use Rattle.loops.specs.Front.{front, tab, length-tab, tab-read, tab-more, tab-a
 use Rattle.loops.specs.Pick.{pick-false}
 use Rattle.buffers.specs.Buffers.{copied, copied-all}
 use Rattle.noise_loss.specs.Cover.{overlapped}
-use Rattle.noise_loss.specs.Energies.{decay, drops, droppedAt, lowerEnergies}
+use Rattle.noise_loss.specs.Energies.{energyDrop, drops, droppedAt, lowerEnergies}
 
 -- ---- energies
 
 module _ (channels start end count : ℕ) (e₀ e : List Float) (i : ℕ) (w : e ≡ front (tab (droppedAt channels start end count e₀) i) e₀ i) where
-  pub lower-more : (by r : Float) → by ≡ decay count → i < length e₀
+  pub lower-more : (by r : Float) → by ≡ energyDrop count → i < length e₀
       → r ≡ cond (drops channels start end i) (sub binary32 (getD e i nan) by) (getD e i nan)
       → set e i r ≡ front (tab (droppedAt channels start end count e₀) (i + 1)) e₀ (i + 1)
   unfolding droppedAt

@@ -28,14 +28,7 @@ module _ (n : ℕ) (block : List Float) (t : Tail) (low : overlap ≤ n) (high :
   pub length-covered-new : length (t .new) ≡ half → length (coveredTail n block t .new) ≡ half
   unfolding coveredTail
   length-covered-new k =
-      omega (
-        arith,
-        length-append (take (half - n) (t .new)) (overlapped block (t .over) ++ slice overlap n block),
-        length-take-le (half - n) (t .new) (omega arith),
-        length-append (overlapped block (t .over)) (slice overlap n block),
-        length-overlapped block (t .over),
-        length-slice overlap n block (omega arith),
-      )
+      simp (length-append, length-overlapped) (omega (arith, length-take-le (half - n) (t .new) (omega arith), length-slice overlap n block (omega arith)))
 
   -- the new overlap is the block's last 120 samples, whatever the history was
   pub length-covered-over : length (coveredTail n block t .over) ≡ overlap

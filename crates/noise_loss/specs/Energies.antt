@@ -10,8 +10,8 @@ use Rattle.loops.specs.Front.{tab, length-tab}
 use Rattle.custom_mode.specs.Mode.{maxBands}
 
 -- 1.5 at loss count 0, else 0.5
-unfoldable pub decay : ℕ → Float
-decay count = cond (eqb count 0) (ofBits binary32 0x3fc0_0000) (ofBits binary32 0x3f00_0000)
+unfoldable pub energyDrop : ℕ → Float
+energyDrop count = cond (eqb count 0) (ofBits binary32 0x3fc0_0000) (ofBits binary32 0x3f00_0000)
 
 -- whether place i is that of a band from start to just below end of a used channel
 unfoldable pub drops : ℕ → ℕ → ℕ → ℕ → Bool
@@ -20,7 +20,7 @@ drops channels start end i = ltb (i / maxBands) channels && (leb start (i % maxB
 -- what stands at place i after the drop
 unfoldable pub droppedAt : ℕ → ℕ → ℕ → ℕ → List Float → ℕ → Float
 droppedAt channels start end count coarse i =
-    cond (drops channels start end i) (sub binary32 (getD coarse i nan) (decay count)) (getD coarse i nan)
+    cond (drops channels start end i) (sub binary32 (getD coarse i nan) (energyDrop count)) (getD coarse i nan)
 
 -- the coarse energies after a noise loss: from loss count 5 on nothing drops
 unfoldable pub lowerEnergies : ℕ → ℕ → ℕ → ℕ → List Float → List Float

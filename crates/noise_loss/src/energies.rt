@@ -3,10 +3,10 @@ ghost use mathlib.Core.Path.{_≡_};
 ghost use mathlib.Core.Bool.{cond};
 ghost use lib.Ieee.{binary32, sub};
 use custom_mode::standard::MAX_BANDS;
-ghost use Rattle.noise_loss.specs.Energies.{decay, drops, lowerEnergies, readEnergies};
+ghost use Rattle.noise_loss.specs.Energies.{energyDrop, drops, lowerEnergies, readEnergies};
 
-fn decay_of(count: u32) -> f32
-    ensures { λ r. ⌜ r ≡ decay count ⌝ }
+fn energy_drop(count: u32) -> f32
+    ensures { λ r. ⌜ r ≡ energyDrop count ⌝ }
 {
     if count == 0 { 1.5 } else { 0.5 }
 }
@@ -39,7 +39,7 @@ pub fn lower_energies(
     if 5 <= count {
         return coarse;
     }
-    let by = decay_of(count);
+    let by = energy_drop(count);
     let mut e = coarse;
     for i in 0..50 {
         e[i] = dropped(e[i], i, channels, start, end, by);

@@ -105,7 +105,10 @@ loop-holds c =
     let z = sized _ (a .pre .1 .0) in (
       search needs,
       c .along2 .ensures
-          ∙ tab-same _ _ 8 (λ j h. let e : a .args .t + length (a .args .x .now) / 2 + 1 * j ≡ a .args .t + j + length (a .args .x .now) / 2 = omega arith in ap (λ y. y % (4 * length (a .args .x .now))) e ∙ place-none (length (a .args .x .now)) (a .args .t + j) (even _ z)),
+          ∙ tab-same _ _ 8
+          (λ j h.
+          let e : a .args .t + length (a .args .x .now) / 2 + 1 * j ≡ a .args .t + j + length (a .args .x .now) / 2 = omega arith in
+          ap (λ y. y % (4 * length (a .args .x .now))) e ∙ place-none (length (a .args .x .now)) (a .args .t + j) (even _ z)),
       tab-const (sums (length (a .args .x .now)) (a .args .x .now) (a .args .t) 0) (ofBits binary64 0) 8 (λ i h. sum-none _ _ _),
     )
 

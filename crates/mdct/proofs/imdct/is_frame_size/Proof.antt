@@ -13,7 +13,14 @@ returns c = ⊎-elim (λ e. sym (ap isFrameSize e)) (⊎-elim (λ e. sym (ap isF
 
 returns-2 : tie.Need-returns-2
 unfolding isFrameSize
-returns-2 c = let no = c .match .rest .1 in simp (ne-eqb _ 120 (λ e. no (inl e)), ne-eqb _ 240 (λ e. no (inr (inl e))), ne-eqb _ 480 (λ e. no (inr (inr (inl e)))), ne-eqb _ 960 (λ e. no (inr (inr (inr e)))))
+returns-2 c =
+    let no = c .match .rest .1 in
+    simp (
+      ne-eqb _ 120 (λ e. no (inl e)),
+      ne-eqb _ 240 (λ e. no (inr (inl e))),
+      ne-eqb _ 480 (λ e. no (inr (inr (inl e)))),
+      ne-eqb _ 960 (λ e. no (inr (inr (inr e)))),
+    )
 
 pub is-frame-size-spec : {M : Type 1} → statement M
 is-frame-size-spec = tie.close (tie.spec returns returns-2)

@@ -19,7 +19,9 @@ abbrev μ-loop : tie.MeasureT-loop
 μ-loop circle x out₀ m t₀ out t = m - t
 
 -- a turn starts where eight more outputs have room
-room : (c : tie.In-loop Inv-loop μ-loop) → (c .before .loop .t + 8 ≤ 2 * length (c .before .before .before .before .args .x .now)) × (length (c .before .before .before .before .args .x .now) ≤ 960) × (length (c .before .before .before .before .args .out .now) ≡ 2 * length (c .before .before .before .before .args .x .now))
+room : (c : tie.In-loop Inv-loop μ-loop)
+    → (c .before .loop .t + 8 ≤ 2 * length (c .before .before .before .before .args .x .now)) × (length (c .before .before .before .before .args .x .now) ≤ 960)
+    × (length (c .before .before .before .before .args .out .now) ≡ 2 * length (c .before .before .before .before .args .x .now))
 room c =
     let z = sized _ (c .before .before .before .before .pre .1 .0) in
     let m = c .before .before .before .before .pre .1 .1 in

@@ -23,8 +23,8 @@ unfolding lowerEnergies
 returns c =
     rw (le-leb 5 (c .before .args .count) (c .if1 .taken))
 
-decay-of-requires : tie.Need-decay-of-requires Inv-loop μ-loop
-decay-of-requires c κs = search needs
+energy-drop-requires : tie.Need-energy-drop-requires Inv-loop μ-loop
+energy-drop-requires c κs = search needs
 
 loop-holds : tie.Need-loop-holds Inv-loop μ-loop
 loop-holds c =
@@ -55,7 +55,7 @@ loop-again : tie.Need-loop-again Inv-loop μ-loop
 loop-again c =
     let h = c .before .before .loop in
     let o = c .before .before .before in
-    (search needs, simp length-set (search needs), search needs, lower-more _ _ _ _ _ _ _ (h .inv .3) _ _ (o .decay-of .ensures) (omega arith) (c .dropped .ensures))
+    (search needs, simp length-set (search needs), search needs, lower-more _ _ _ _ _ _ _ (h .inv .3) _ _ (o .energy-drop .ensures) (omega arith) (c .dropped .ensures))
 
 returns-2 : tie.Need-returns-2 Inv-loop μ-loop
 returns-2 c =
@@ -69,7 +69,7 @@ lower-energies-spec =
     Inv-loop
     μ-loop
     returns
-    decay-of-requires
+    energy-drop-requires
     loop-holds
     mul-dropped
     array-read-dropped
