@@ -26,11 +26,12 @@ sqrtOf (fin true (suc m) e) = nan
 sqrtOf (fin false (suc m) e) = round binary32 false (twiceRoot (suc m * up e * 2 ^ 298 / down e)) (2 ^ 150)
 
 -- What nearest means, by whole-number squares. A finite f32 is a whole number of units of 2 ^ -149: where x is a of them, √x is √(a * 2 ^ 149).
--- r is nearer to √x than any other finite f32 y that is not negative: √x lies on r's side of the middle of y and r, and is not the middle.
+-- r is an f32, and nearer to √x than any other finite f32 y that is not negative: √x lies on r's side of the middle of y and r, and is not the middle.
 pub record NearRoot (x r : Float) : Type 0 where
   pub a : ℕ
   pub c : ℕ
   pub x-is : HasValue x false a (2 ^ 149)
   pub r-is : HasValue r false c (2 ^ 149)
+  pub r-fits : T (fits binary32 r)
   pub below : (y : Float) (b : ℕ) → T (fits binary32 y) → HasValue y false b (2 ^ 149) → b < c → (b + c) * (b + c) < 4 * (a * 2 ^ 149)
   pub above : (y : Float) (b : ℕ) → T (fits binary32 y) → HasValue y false b (2 ^ 149) → c < b → 4 * (a * 2 ^ 149) < (b + c) * (b + c)
