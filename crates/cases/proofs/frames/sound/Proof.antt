@@ -1,0 +1,50 @@
+use mathlib.Core.Path.{sym}
+use lib.Seq.{length-take-le}
+use borrow.Author.Needs.{needs}
+use Rattle.cases.proofs.frames.sound.Statement.{statement}
+use Rattle.cases.proofs.frames.sound.Tie as tie
+
+returns : tie.Need-returns
+returns c = search needs
+
+slice-aggregate-deemphasis-stereo : tie.Need-slice-aggregate-deemphasis-stereo
+slice-aggregate-deemphasis-stereo c = sym (length-take-le _ _ (search needs))
+
+slice-aggregate-deemphasis-stereo-2 : tie.Need-slice-aggregate-deemphasis-stereo-2
+slice-aggregate-deemphasis-stereo-2 c = sym (length-take-le _ _ (search needs))
+
+deemphasis-stereo-requires : tie.Need-deemphasis-stereo-requires
+deemphasis-stereo-requires c κs = search needs
+
+same-length : tie.Need-same-length
+same-length c = search needs
+
+returns-2 : tie.Need-returns-2
+returns-2 c = search needs
+
+slice-aggregate-deemphasis-mono : tie.Need-slice-aggregate-deemphasis-mono
+slice-aggregate-deemphasis-mono c = sym (length-take-le _ _ (search needs))
+
+deemphasis-mono-requires : tie.Need-deemphasis-mono-requires
+deemphasis-mono-requires c κs = search needs
+
+same-length-2 : tie.Need-same-length-2
+same-length-2 c = search needs
+
+returns-3 : tie.Need-returns-3
+returns-3 c = search needs
+
+pub sound-spec : {M : Type 1} → statement M
+sound-spec =
+    tie.close
+    (tie.spec
+    returns
+    slice-aggregate-deemphasis-stereo
+    slice-aggregate-deemphasis-stereo-2
+    deemphasis-stereo-requires
+    same-length
+    returns-2
+    slice-aggregate-deemphasis-mono
+    deemphasis-mono-requires
+    same-length-2
+    returns-3)

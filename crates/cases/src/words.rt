@@ -1,0 +1,132 @@
+// Little-endian words on standard input and output.
+use float_bits::words::f32_from_word;
+use float_bits::words::f32_to_word;
+ghost use Prim.Native.Nat.{_<_};
+
+// `whole` is false where the input ended first.
+pub(crate) struct Word {
+    pub value: u32,
+    pub whole: bool,
+}
+
+fn wide(b: u8) -> u32
+    ensures { λ r. ⌜ r < 256 ⌝ }
+{
+    b as u32
+}
+
+pub(crate) fn read_word() -> Word {
+    let mut b = [0u8; 4];
+    let n = io::read_full(libc::STDIN_FILENO, &mut b);
+    if n < 4 {
+        return Word {
+            value: 0,
+            whole: false,
+        };
+    }
+    let low = wide(b[0]) + wide(b[1]) * 0x100;
+    let high = wide(b[2]) + wide(b[3]) * 0x100;
+    Word {
+        value: low + high * 0x1_0000,
+        whole: true,
+    }
+}
+
+// False where the output takes no more.
+pub(crate) fn write_word(w: u32) -> bool {
+    let b = [
+        (w % 0x100) as u8,
+        (w / 0x100 % 0x100) as u8,
+        (w / 0x1_0000 % 0x100) as u8,
+        (w / 0x100_0000) as u8,
+    ];
+    io::write_all(libc::STDOUT_FILENO, &b)
+}
+
+// Nothing that is written here is as large as a word.
+pub(crate) fn write_number(n: usize) -> bool {
+    write_word((n % 0x1_0000_0000) as u32)
+}
+
+pub(crate) fn write_float(x: f32) -> bool {
+    write_word(f32_to_word(x))
+}
+
+// The bits of an f64; a NaN's are 7FF80000 00000000.
+fn double_bits(x: f64) -> u64 {
+    if x != x {
+        return 0x7ff8_0000_0000_0000;
+    }
+    f64::to_bits(x)
+}
+
+// The low word first.
+pub(crate) fn write_double(x: f64) -> bool {
+    let bits = double_bits(x);
+    if !write_word((bits % 0x1_0000_0000) as u32) {
+        return false;
+    }
+    write_word((bits / 0x1_0000_0000) as u32)
+}
+
+// False where the input ended before x was full.
+pub(crate) fn read_words(x: &mut [u32]) -> bool {
+    let n = x.len();
+    for i in 0..n {
+        let w = read_word();
+        if !w.whole {
+            return false;
+        }
+        x[i] = w.value;
+    }
+    true
+}
+
+pub(crate) fn write_words(x: &[u32]) -> bool {
+    let n = x.len();
+    for i in 0..n {
+        if !write_word(x[i]) {
+            return false;
+        }
+    }
+    true
+}
+
+// False where the input ended before x was full.
+pub(crate) fn read_floats(x: &mut [f32]) -> bool {
+    let n = x.len();
+    for i in 0..n {
+        let w = read_word();
+        if !w.whole {
+            return false;
+        }
+        x[i] = f32_from_word(w.value);
+    }
+    true
+}
+
+pub(crate) fn write_floats(x: &[f32]) -> bool {
+    let n = x.len();
+    for i in 0..n {
+        if !write_float(x[i]) {
+            return false;
+        }
+    }
+    true
+}
+
+// The first n of x.
+pub(crate) fn read_first(x: &mut [f32], n: usize) -> bool {
+    if x.len() < n {
+        return false;
+    }
+    read_floats(&mut x[..n])
+}
+
+// The first n of x.
+pub(crate) fn write_first(x: &[f32], n: usize) -> bool {
+    if x.len() < n {
+        return false;
+    }
+    write_floats(&x[..n])
+}
