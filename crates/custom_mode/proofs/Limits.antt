@@ -11,7 +11,7 @@ use lib.Ieee.{Float, nan, inf, fin, binary64, up, down, ofInt, ofBits, neg, lt, 
 use lib.Ieee.Exact.{HasValue}
 use lib.Ieee.Back.{round-whole}
 use lib.Ieee.Fits.{down-pos}
-use Rattle.custom_mode.specs.Below.{and-true}
+use Rattle.loops.specs.Logic.{and-true}
 use Rattle.custom_mode.specs.Gain.{floorFrom}
 use Rattle.custom_mode.proofs.Floor.{Fine}
 

@@ -4,7 +4,6 @@ use mathlib.Core.List.{List, [], _∷_, map}
 use Prim.Native.Nat.{ℕ, zero, suc, _<_}
 use native.Mathlib.Nat.{le-of-suc-le-suc, not-suc-le-zero}
 use lib.ListN.{length, getD, List·getD-map}
-use Rattle.custom_mode.specs.Mode.{combGains}
 
 -- inside a list the default does not count
 pub read-any : {A : Type 0} (xs : List A) (i : ℕ) (d e : A) → i < length xs → getD xs i d ≡ getD xs i e
@@ -14,9 +13,3 @@ read-any (x ∷ xs) (suc i) d e h = read-any xs i d e (le-of-suc-le-suc h)
 
 pub read-map : {A B : Type 0} (f : A → B) (xs : List A) (i : ℕ) (d : A) (e : B) → i < length (map f xs) → getD (map f xs) i e ≡ f (getD xs i d)
 read-map f xs i d e h = read-any (map f xs) i e (f d) h ∙ List·getD-map f xs i d
-
-pub comb-last : (n : ℕ) → (n ≡ 0 → ⊥) → (n ≡ 1 → ⊥) → combGains 2 ≡ combGains n
-unfolding combGains
-comb-last zero h k = absurd (h refl)
-comb-last (suc zero) h k = absurd (k refl)
-comb-last (suc (suc n)) h k = refl

@@ -4,6 +4,7 @@ use mathlib.Core.Bool.{Bool, true, false, cond}
 use lib.Dec.{eqb}
 use lib.ListN.{getD}
 use lib.Ieee.{Float, nan, inf, fin, binary32, binary64, up, down, minus, ofInt, ofBits, neg, add, sub, mul, div, le}
+use Rattle.float_bits.specs.Extremes.{minOf}
 use Rattle.float_bits.specs.Formats.{narrow}
 use Rattle.custom_mode.specs.Powers.{powerBits}
 
@@ -49,3 +50,7 @@ Within (fin false m e) = m * up e ≤ 32 * down e
 -- +0 for an x of at most -150
 unfoldable pub bandGain : Float → Float
 bandGain x = cond (le x (neg (ofBits binary32 0x4316_0000))) (ofBits binary32 0) (gainAt x (steps x))
+
+-- the gain of a sum of energy and mean, which counts as 32 where it is above or NaN
+abbrev pub gainOf : Float → Float
+gainOf sum = bandGain (minOf sum (ofBits binary32 0x4200_0000))

@@ -5,11 +5,7 @@ use Rattle.float_bits.specs.Extremes.{minOf}
 use Rattle.float_bits.specs.Formats.{narrow}
 use Rattle.custom_mode.specs.Rate.{factorNumber, resamplingFactor}
 use Rattle.custom_mode.specs.Powers.{powerBits}
-use Rattle.custom_mode.specs.Gain.{floorFrom, steps, power, series, gainAt, bandGain}
-
--- the gain of a sum of energy and mean
-abbrev pub gainOf : Float → Float
-gainOf x = bandGain (minOf x (ofBits binary32 0x4200_0000))
+use Rattle.custom_mode.specs.Gain.{floorFrom, steps, power, series, gainAt, bandGain, gainOf}
 
 -- 0 gives 1; 32 and NaN give 2 ^ 32; -150 gives +0
 pub gains :

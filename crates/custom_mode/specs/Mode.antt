@@ -1,15 +1,34 @@
--- The tables of the standard mode. What stands past a table's end is said with each.
+-- The standard mode: its numbers and tables, stated here and nowhere else. What stands past a table's end is said with each.
 use mathlib.Core.List.{List, [], _∷_}
-use Prim.Native.Nat.{ℕ, zero, suc}
+use Prim.Native.Nat.{ℕ}
 use lib.ListN.{getD}
 use lib.Ieee.{Float, ofBits, binary32}
 
--- the band edges, in bins of the shortest block; past the last 100
+-- the samples of the shortest block
+abbrev pub shortBlock : ℕ
+shortBlock = 120
+
+-- the samples in which a block and the next one overlap
+abbrev pub overlap : ℕ
+overlap = 120
+
+abbrev pub bands : ℕ
+bands = 21
+
+-- the energies of a channel: more than it has bands
+abbrev pub maxBands : ℕ
+maxBands = 25
+
+-- where the last band ends
+abbrev pub lastEdge : ℕ
+lastEdge = 100
+
+-- the band edges, in bins of the shortest block; past the last the last
 unfoldable pub edges : List ℕ
 edges = 0 ∷ 1 ∷ 2 ∷ 3 ∷ 4 ∷ 5 ∷ 6 ∷ 7 ∷ 8 ∷ 10 ∷ 12 ∷ 14 ∷ 16 ∷ 20 ∷ 24 ∷ 28 ∷ 34 ∷ 40 ∷ 48 ∷ 60 ∷ 78 ∷ 100 ∷ []
 
 unfoldable pub edge : ℕ → ℕ
-edge i = getD edges i 100
+edge i = getD edges i lastEdge
 
 abbrev f32 : ℕ → Float
 f32 b = ofBits binary32 b
@@ -26,12 +45,6 @@ means =
 unfoldable pub mean : ℕ → Float
 mean i = getD means i (f32 0)
 
--- the post-filter's three tap factors by tapset; past the last those of the last
-unfoldable pub combGains : ℕ → List Float
-combGains zero = f32 0x3e9d_0000 ∷ f32 0x3e5e_4000 ∷ f32 0x3e04_c000 ∷ []
-combGains (suc zero) = f32 0x3eed_8000 ∷ f32 0x3e89_4000 ∷ f32 0 ∷ []
-combGains (suc (suc n)) = f32 0x3f4c_c000 ∷ f32 0x3dcd_0001 ∷ f32 0 ∷ []
-
--- the de-emphasis: 0.8500061, 0, 1, 1
+-- the de-emphasis coefficients: 0.8500061, 0, 1, 1
 unfoldable pub preemph : List Float
 preemph = f32 0x3f59_9a00 ∷ f32 0 ∷ f32 0x3f80_0000 ∷ f32 0x3f80_0000 ∷ []

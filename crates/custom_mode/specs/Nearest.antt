@@ -5,8 +5,9 @@ use Prim.Native.Nat.{ℕ, _+_, _*_, _-_, _^_, _/_, _%_, _<_}
 use lib.ListN.{getD}
 use lib.Dec.{ltb, eqb}
 use borrow.Author.Tests.{ltb-true, eqb-true}
+use Rattle.loops.specs.Logic.{and-true}
 use Rattle.custom_mode.specs.Powers.{powerBits}
-use Rattle.custom_mode.specs.Below.{below, below-at, and-true}
+use Rattle.custom_mode.specs.Below.{below, below-at}
 
 -- twice the significand of an f64 from 1 up to 2
 abbrev pub twice : ℕ → ℕ

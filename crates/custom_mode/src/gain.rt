@@ -3,9 +3,8 @@ ghost use mathlib.Core.Path.{_≡_};
 ghost use mathlib.Core.Bool.{false};
 ghost use Prim.Native.Nat.{_+_, _*_, _/_, _%_, _<_, _≤_};
 ghost use lib.Dec.{T};
-ghost use lib.Ieee.{fin, minus, fits, ofInt, ofBits, add, binary32, binary64};
-ghost use Rattle.float_bits.specs.Extremes.{minOf};
-ghost use Rattle.custom_mode.specs.Gain.{steps, power, gainAt, bandGain, Within, series};
+ghost use lib.Ieee.{fin, minus, fits, ofInt, add, binary32, binary64};
+ghost use Rattle.custom_mode.specs.Gain.{steps, power, gainAt, gainOf, Within, series};
 
 // 2 ^ (i / 256) to the nearest f64; i counts modulo 256.
 pub fn power_at(i: u64) -> f64
@@ -66,7 +65,7 @@ fn gain_at(x: f32, q: u64) -> f32
 
 // Stands for 2 ^ (energy + mean), the exponent at most 32; NaN counts as 32.
 pub fn band_gain(energy: f32, mean: f32) -> f32
-    ensures { λ r. ⌜ r ≡ bandGain (minOf (add binary32 energy mean) (ofBits binary32 0x4200_0000)) ⌝ }
+    ensures { λ r. ⌜ r ≡ gainOf (add binary32 energy mean) ⌝ }
 {
     let x = float_bits::extremes::min_f32(energy + mean, 32.0);
     if x <= -150.0 {

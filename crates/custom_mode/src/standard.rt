@@ -1,17 +1,20 @@
-// The standard mode: constants and tables. An accessor answers at every index; past a table's end it says what.
+// The standard mode: numbers and tables. An accessor answers at every index; past a table's end it says what.
 ghost use mathlib.Core.Path.{_≡_};
-ghost use Rattle.custom_mode.specs.Mode.{edge, mean, combGains, preemph};
+ghost use Rattle.custom_mode.specs.Mode.{edge, mean, preemph};
 
+// The samples of the shortest block.
 pub const SHORT_BLOCK: usize = 120;
 
+// The samples in which a block and the next one overlap.
 pub const OVERLAP: usize = 120;
 
 pub const BANDS: usize = 21;
 
-// Limits of the post-filter's period.
-pub const MIN_PERIOD: u32 = 15;
+// The energies of a channel: more than it has bands.
+pub const MAX_BANDS: usize = 25;
 
-pub const MAX_PERIOD: u32 = 1_022;
+// Where the last band ends.
+pub const LAST_EDGE: usize = 100;
 
 const EDGES: [usize; 22] = [
     0,
@@ -66,33 +69,22 @@ const E_MEANS: [f32; 25] = [
     3.75,
 ];
 
-// The edge numbered i, in bins of the shortest block; 100 past the last.
+// The edge numbered i, in bins of the shortest block; past the last the last.
 pub fn band_edge(i: usize) -> usize
     ensures { λ r. ⌜ r ≡ edge i ⌝ }
 {
-    if i < 22 { EDGES[i] } else { 100 }
+    if i < 22 { EDGES[i] } else { LAST_EDGE }
 }
 
 // The mean energy of band i; +0 past the last.
 pub fn mean_energy(i: usize) -> f32
     ensures { λ r. ⌜ r ≡ mean i ⌝ }
 {
-    if i < 25 { E_MEANS[i] } else { 0.0 }
-}
-
-// The post-filter's tap factors; a tapset above 2 counts as 2.
-pub fn comb_gains(tapset: u32) -> [f32; 3]
-    ensures { λ r. ⌜ r ≡ combGains tapset ⌝ }
-{
-    match tapset {
-        0 => [0.30664062, 0.21704102, 0.12963867],
-        1 => [0.4638672, 0.2680664, 0.0],
-        _ => [0.7998047, 0.10009766, 0.0],
-    }
+    if i < MAX_BANDS { E_MEANS[i] } else { 0.0 }
 }
 
 // The de-emphasis coefficients.
-pub fn deemphasis() -> [f32; 4]
+pub fn preemph() -> [f32; 4]
     ensures { λ r. ⌜ r ≡ preemph ⌝ }
 {
     [0.8500061, 0.0, 1.0, 1.0]

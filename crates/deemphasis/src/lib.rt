@@ -1,47 +1,42 @@
 // De-emphasis of a frame's samples, and their PCM. It does not know whether the frame was lost.
+use custom_mode::standard::preemph;
 ghost use mathlib.Core.Path.{_≡_};
-ghost use mathlib.Core.Bool.{Bool, true};
-ghost use mathlib.Core.List.{List, [], _∷_};
-ghost use Prim.Native.Nat.{ℕ, _+_, _*_, _-_, _/_, _%_, _≤_, _<_};
-ghost use lib.ListN.{length, getD};
+ghost use mathlib.Core.List.{[], _∷_};
+ghost use Prim.Native.Nat.{_*_, _/_};
+ghost use lib.ListN.{length};
 ghost use Rattle.loops.specs.Front.{front, tab};
-ghost use lib.Ieee.{nan};
-ghost use Rattle.deemphasis.specs.Deemphasis.{next, scaled, memoryTo, fits, Room, valueAt, deemphasis, deemphasisMono, deemphasisStereo};
-
-// The standard mode's coefficients.
-const C0: f32 = 0.8500061;
-
-const C1: f32 = 0.0;
-
-const C3: f32 = 1.0;
+ghost use Rattle.loops.specs.Reply.{reply};
+ghost use Rattle.deemphasis.specs.Deemphasis.{nextMemory, pcmValue, memoryTo, hasRoom, Room, valueAt, sound, deemphasisMono, deemphasisStereo};
 
 const PER_SCALE: f32 = 0.000030517578125;
 
 // Whether the lengths fitted, and the memories of both channels.
-pub struct Voice {
-    pub done: bool,
+pub struct Deemphasised {
+    pub taken: bool,
     pub memories: [f32; 2],
 }
 
-// The memory after the sample v. C1 x v stays: it turns an infinite v into NaN.
+// The memory after the sample v. The product with v stays, though its coefficient is 0: it turns an infinite v into NaN.
 fn next_memory(mem: f32, v: f32) -> f32
-    ensures { λ r. ⌜ r ≡ next mem v ⌝ }
+    ensures { λ r. ⌜ r ≡ nextMemory mem v ⌝ }
 {
+    let c = preemph();
     let tmp = v + mem;
-    C0 * tmp - C1 * v
+    c[0] * tmp - c[1] * v
 }
 
 // What the sample v leaves as.
 fn pcm_value(mem: f32, v: f32) -> f32
-    ensures { λ r. ⌜ r ≡ scaled mem v ⌝ }
+    ensures { λ r. ⌜ r ≡ pcmValue mem v ⌝ }
 {
+    let c = preemph();
     let tmp = v + mem;
-    C3 * tmp * PER_SCALE
+    c[3] * tmp * PER_SCALE
 }
 
 // Whether every downsample-th of n samples can be kept in `room` places.
 fn has_room(downsample: usize, n: usize, room: usize) -> bool
-    ensures { λ r. ⌜ r ≡ fits downsample n room ⌝ }
+    ensures { λ r. ⌜ r ≡ hasRoom downsample n room ⌝ }
 {
     if downsample < 1 {
         return false;
@@ -55,7 +50,9 @@ fn has_room(downsample: usize, n: usize, room: usize) -> bool
 // One channel's PCM, and its memory after all samples.
 fn filter_mono(v: &[f32], memory: f32, downsample: usize, pcm: &mut [f32]) -> f32
     requires { ⌜ Room downsample (length (now v)) (length (now pcm)) ⌝ }
-    ensures { λ r. ⌜ (r ≡ memoryTo (now (v .entry)) memory (length (now (v .entry)))) × (now (pcm .exit) ≡ front (tab (valueAt downsample (now (v .entry) ∷ []) (memory ∷ [])) (length (now (v .entry)) / downsample)) (now (pcm .entry)) (length (now (v .entry)) / downsample)) ⌝ }
+    ensures { λ r. ⌜ (r ≡ memoryTo (now (v .entry)) memory (length (now (v .entry))))
+        × (now (pcm .exit) ≡ front (tab (valueAt downsample (now (v .entry) ∷ []) (memory ∷ [])) (length (now (v .entry)) / downsample))
+        (now (pcm .entry)) (length (now (v .entry)) / downsample)) ⌝ }
 {
     let count = v.len() / downsample;
     let mut mem = memory;
@@ -81,7 +78,9 @@ fn filter_stereo(
     pcm: &mut [f32],
 ) -> [f32; 2]
     requires { ⌜ (length (now w) ≡ length (now v)) × Room downsample (length (now v)) (length (now pcm) / 2) ⌝ }
-    ensures { λ r. ⌜ (r ≡ memoryTo (now (v .entry)) left (length (now (v .entry))) ∷ memoryTo (now (w .entry)) right (length (now (v .entry))) ∷ []) × (now (pcm .exit) ≡ front (tab (valueAt downsample (now (v .entry) ∷ now (w .entry) ∷ []) (left ∷ right ∷ [])) (2 * (length (now (v .entry)) / downsample))) (now (pcm .entry)) (2 * (length (now (v .entry)) / downsample))) ⌝ }
+    ensures { λ r. ⌜ (r ≡ memoryTo (now (v .entry)) left (length (now (v .entry))) ∷ memoryTo (now (w .entry)) right (length (now (v .entry))) ∷ [])
+        × (now (pcm .exit) ≡ front (tab (valueAt downsample (now (v .entry) ∷ now (w .entry) ∷ []) (left ∷ right ∷ [])) (2 * (length (now (v .entry)) / downsample)))
+        (now (pcm .entry)) (2 * (length (now (v .entry)) / downsample))) ⌝ }
 {
     let count = v.len() / downsample;
     let mut first = left;
@@ -101,21 +100,26 @@ fn filter_stereo(
 }
 
 // De-emphasis of one channel's samples; the other memory is carried.
-pub fn deemphasis_mono(v: &[f32], memories: [f32; 2], downsample: usize, pcm: &mut [f32]) -> Voice
-    ensures { λ r. ⌜ (r .done ≡ deemphasisMono downsample (now (v .entry)) memories (now (pcm .entry)) .done) × (r .memories ≡ deemphasisMono downsample (now (v .entry)) memories (now (pcm .entry)) .memories) × (now (pcm .exit) ≡ deemphasisMono downsample (now (v .entry)) memories (now (pcm .entry)) .pcm) ⌝ }
+pub fn deemphasis_mono(
+    v: &[f32],
+    memories: [f32; 2],
+    downsample: usize,
+    pcm: &mut [f32],
+) -> Deemphasised
+    ensures { λ r. ⌜ reply (r .taken) (sound (now (pcm .exit)) (r .memories)) ≡ deemphasisMono downsample (now (v .entry)) memories (now (pcm .entry)) ⌝ }
 {
     let room = pcm.len();
-    let done = has_room(downsample, v.len(), room);
-    if done {
+    let fits = has_room(downsample, v.len(), room);
+    if fits {
         let mut after = memories;
         after[0] = filter_mono(v, memories[0], downsample, pcm);
-        return Voice {
-            done: true,
+        return Deemphasised {
+            taken: true,
             memories: after,
         };
     }
-    Voice {
-        done: false,
+    Deemphasised {
+        taken: false,
         memories: memories,
     }
 }
@@ -127,24 +131,24 @@ pub fn deemphasis_stereo(
     memories: [f32; 2],
     downsample: usize,
     pcm: &mut [f32],
-) -> Voice
-    ensures { λ r. ⌜ (r .done ≡ deemphasisStereo downsample (now (v .entry)) (now (w .entry)) memories (now (pcm .entry)) .done) × (r .memories ≡ deemphasisStereo downsample (now (v .entry)) (now (w .entry)) memories (now (pcm .entry)) .memories) × (now (pcm .exit) ≡ deemphasisStereo downsample (now (v .entry)) (now (w .entry)) memories (now (pcm .entry)) .pcm) ⌝ }
+) -> Deemphasised
+    ensures { λ r. ⌜ reply (r .taken) (sound (now (pcm .exit)) (r .memories)) ≡ deemphasisStereo downsample (now (v .entry)) (now (w .entry)) memories (now (pcm .entry)) ⌝ }
 {
     let n = v.len();
     let other = w.len();
     if n == other {
         let room = pcm.len() / 2;
-        let done = has_room(downsample, n, room);
-        if done {
+        let fits = has_room(downsample, n, room);
+        if fits {
             let after = filter_stereo(v, w, memories[0], memories[1], downsample, pcm);
-            return Voice {
-                done: true,
+            return Deemphasised {
+                taken: true,
                 memories: after,
             };
         }
     }
-    Voice {
-        done: false,
+    Deemphasised {
+        taken: false,
         memories: memories,
     }
 }

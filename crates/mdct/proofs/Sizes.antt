@@ -7,7 +7,7 @@ use native.Mathlib.Nat.{mul-assoc, mul-comm, mul-le-mul-left, div-eq-of-eq-mul-r
 use lib.Dec.{T, eqb}
 use lib.Pow.{pow-pos, pow-mono, pow-add}
 use borrow.Author.Tests.{eqb-true}
-use Rattle.mdct.specs.Imdct.{frameSize}
+use Rattle.mdct.specs.Imdct.{isFrameSize}
 
 pub record Size (n : ℕ) : Type 0 where
   pub lm : ℕ
@@ -22,8 +22,8 @@ pick n false false true d ea eb ec ed t = record { lm = 2; small = omega arith; 
 pick n false false false true ea eb ec ed t = record { lm = 3; small = omega arith; is = eqb-true n _ ed }
 pick n false false false false ea eb ec ed t = absurd (subst T (sym t) tt)
 
-pub sized : (n : ℕ) → frameSize n ≡ true → Size n
-unfolding frameSize
+pub sized : (n : ℕ) → isFrameSize n ≡ true → Size n
+unfolding isFrameSize
 sized n t = pick n _ _ _ _ refl refl refl refl t
 
 module _ (n : ℕ) (z : Size n) where

@@ -10,7 +10,7 @@ use lib.ListN.{length, getD}
 use lib.Ieee.{Float, nan, binary64, ofBits, mul, neg}
 use Rattle.loops.specs.Sum.{sumTo}
 use Rattle.loops.specs.Front.{tab, length-tab}
-use Rattle.loops.specs.Pick.{pick-true, pick-false}
+use Rattle.loops.specs.Reply.{Reply, reply, replyIf, reply-lent}
 use Rattle.float_bits.specs.Formats.{narrow}
 use Rattle.cosine_table.specs.Cosines.{cosines}
 
@@ -48,42 +48,38 @@ pub length-imdct : (n : ℕ) (xs : List Float) → length (imdct n xs) ≡ 2 * n
 unfolding imdct
 length-imdct n xs = length-tab _ (2 * n)
 
--- n is 120 * 2 ^ lm for an lm up to 3
-unfoldable pub frameSize : ℕ → Bool
-frameSize n = eqb n (120 * 2 ^ 0) || eqb n (120 * 2 ^ 1) || eqb n (120 * 2 ^ 2) || eqb n (120 * 2 ^ 3)
+-- whether n is a frame size: 120 * 2 ^ lm for an lm up to 3
+unfoldable pub isFrameSize : ℕ → Bool
+isFrameSize n = eqb n (120 * 2 ^ 0) || eqb n (120 * 2 ^ 1) || eqb n (120 * 2 ^ 2) || eqb n (120 * 2 ^ 3)
 
-pub frame-size : (lm : ℕ) → lm ≤ 3 → frameSize (120 * 2 ^ lm) ≡ true
-unfolding frameSize
-frame-size zero h = refl
-frame-size (suc zero) h = refl
-frame-size (suc (suc zero)) h = refl
-frame-size (suc (suc (suc zero))) h = refl
-frame-size (suc (suc (suc (suc lm)))) h = let z : ⊥ = omega arith in absurd z
+pub frame-is : (lm : ℕ) → lm ≤ 3 → isFrameSize (120 * 2 ^ lm) ≡ true
+unfolding isFrameSize
+frame-is zero h = refl
+frame-is (suc zero) h = refl
+frame-is (suc (suc zero)) h = refl
+frame-is (suc (suc (suc zero))) h = refl
+frame-is (suc (suc (suc (suc lm)))) h = let z : ⊥ = omega arith in absurd z
 
 -- whether imdct_naive_f32 takes n inputs and room for m outputs
 unfoldable pub imdctTakes : ℕ → ℕ → Bool
-imdctTakes n m = frameSize n && eqb m (2 * n)
+imdctTakes n m = isFrameSize n && eqb m (2 * n)
 
-pub takes : (n m : ℕ) → frameSize n ≡ true → m ≡ 2 * n → imdctTakes n m ≡ true
+pub takes : (n m : ℕ) → isFrameSize n ≡ true → m ≡ 2 * n → imdctTakes n m ≡ true
 unfolding imdctTakes
 takes n m e h = simp (e, eq-eqb m (2 * n) h)
 
-pub takes-no-size : (n m : ℕ) → frameSize n ≡ false → imdctTakes n m ≡ false
+pub takes-no-size : (n m : ℕ) → isFrameSize n ≡ false → imdctTakes n m ≡ false
 unfolding imdctTakes
 takes-no-size n m e = simp e
 
-pub takes-no-room : (n m : ℕ) → frameSize n ≡ true → (m ≡ 2 * n → ⊥) → imdctTakes n m ≡ false
+pub takes-no-room : (n m : ℕ) → isFrameSize n ≡ true → (m ≡ 2 * n → ⊥) → imdctTakes n m ≡ false
 unfolding imdctTakes
 takes-no-room n m e h = simp (e, ne-eqb m (2 * n) h)
 
--- what it leaves in out: the outputs, or out as it was
-unfoldable pub imdctLeaves : List Float → List Float → List Float
-imdctLeaves xs out = cond (imdctTakes (length xs) (length out)) (imdct (length xs) xs) out
+-- what it leaves: the outputs in out, or out as it was
+unfoldable pub imdctReply : List Float → List Float → Reply (List Float)
+imdctReply xs out = replyIf (imdctTakes (length xs) (length out)) (imdct (length xs) xs) out
 
-pub leaves-outputs : (xs out : List Float) → imdctTakes (length xs) (length out) ≡ true → imdctLeaves xs out ≡ imdct (length xs) xs
-unfolding imdctLeaves
-leaves-outputs xs out e = pick-true _ _ _ e
-
-pub leaves-out : (xs out : List Float) → imdctTakes (length xs) (length out) ≡ false → imdctLeaves xs out ≡ out
-unfolding imdctLeaves
-leaves-out xs out e = pick-false _ _ _ e
+pub reply-outputs : (xs out : List Float) {t : Bool} {y : List Float} → reply t y ≡ imdctReply xs out → imdctTakes (length xs) (length out) ≡ true → y ≡ imdct (length xs) xs
+unfolding imdctReply
+reply-outputs xs out e h = reply-lent _ _ _ e h

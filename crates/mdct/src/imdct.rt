@@ -9,9 +9,10 @@ ghost use Prim.Native.Nat.{_+_, _*_, _/_, _%_, _<_, _≤_};
 ghost use lib.ListN.{length, getD, take};
 ghost use lib.Ieee.{nan};
 ghost use Rattle.loops.specs.Front.{front, tab};
+ghost use Rattle.loops.specs.Reply.{reply};
 ghost use Rattle.cosine_table.specs.Cosines.{cosines};
 ghost use Rattle.mdct.specs.Circle.{IsCircle};
-ghost use Rattle.mdct.specs.Imdct.{cosAt, frameSize, halfOf, imdct, imdctLeaves, imdctSum, imdctTakes};
+ghost use Rattle.mdct.specs.Imdct.{cosAt, isFrameSize, halfOf, imdct, imdctReply, imdctSum};
 
 // The cosine of j parts of a circle of 7,680.
 fn cos_at(c: &[f64; 1921], j: usize) -> f64
@@ -33,7 +34,7 @@ fn cos_at(c: &[f64; 1921], j: usize) -> f64
 // The cosines of a circle of 4 n steps, each at half a step more than a whole one.
 fn circle(c: &[f64; 1921], n: usize) -> [f64; 3840]
     requires { ⌜ now c ≡ cosines ⌝ }
-    requires { ⌜ frameSize n ≡ true ⌝ }
+    requires { ⌜ isFrameSize n ≡ true ⌝ }
     ensures { λ r. ⌜ IsCircle n r ⌝ }
 {
     let s = 960 / n;
@@ -68,7 +69,7 @@ fn along(first: usize, by: usize, w: usize) -> [usize; 8]
 // The sums of eight outputs from t on: eight sums side by side, each in the order of the inputs.
 fn eight(circle: &[f64; 3840], x: &[f32], t: usize) -> [f64; 8]
     requires { ⌜ IsCircle (length (now x)) (now circle) ⌝ }
-    requires { ⌜ frameSize (length (now x)) ≡ true ⌝ }
+    requires { ⌜ isFrameSize (length (now x)) ≡ true ⌝ }
     requires { ⌜ t < 1920 ⌝ }
     ensures { λ r. ⌜ r ≡ tab (λ j. imdctSum (length (now (x .entry))) (now (x .entry)) (t + j)) 8 ⌝ }
 {
@@ -100,7 +101,7 @@ fn halves(sums: &[f64; 8], out: &mut [f32], t: usize)
 
 fn outputs(circle: &[f64; 3840], x: &[f32], out: &mut [f32])
     requires { ⌜ IsCircle (length (now x)) (now circle) ⌝ }
-    requires { ⌜ frameSize (length (now x)) ≡ true ⌝ }
+    requires { ⌜ isFrameSize (length (now x)) ≡ true ⌝ }
     requires { ⌜ length (now out) ≡ 2 * length (now x) ⌝ }
     ensures { λ _. ⌜ now (out .exit) ≡ imdct (length (now (x .entry))) (now (x .entry)) ⌝ }
 {
@@ -114,8 +115,8 @@ fn outputs(circle: &[f64; 3840], x: &[f32], out: &mut [f32])
 }
 
 // One of the four frame sizes.
-fn frame_size(n: usize) -> bool
-    ensures { λ r. ⌜ r ≡ frameSize n ⌝ }
+fn is_frame_size(n: usize) -> bool
+    ensures { λ r. ⌜ r ≡ isFrameSize n ⌝ }
 {
     match n {
         120 | 240 | 480 | 960 => true,
@@ -125,11 +126,10 @@ fn frame_size(n: usize) -> bool
 
 // Takes n inputs, n one of the four frame sizes, into 2 n outputs. Of any other lengths it returns false, and out stays as it was.
 pub fn imdct_naive_f32(spectrum: &[f32], out: &mut [f32]) -> bool
-    ensures { λ r. do ⌜ r ≡ imdctTakes (← ⟦spectrum.len()⟧ .entry) (← ⟦out.len()⟧ .entry) ⌝ }
-    ensures { λ _. ⌜ now (out .exit) ≡ imdctLeaves (now (spectrum .entry)) (now (out .entry)) ⌝ }
+    ensures { λ r. ⌜ reply r (now (out .exit)) ≡ imdctReply (now (spectrum .entry)) (now (out .entry)) ⌝ }
 {
     let n = spectrum.len();
-    if !frame_size(n) {
+    if !is_frame_size(n) {
         return false;
     }
     if out.len() != 2 * n {

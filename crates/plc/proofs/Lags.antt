@@ -7,7 +7,8 @@ use lib.ListN.{length, getD, set}
 use lib.Ieee.{Float, nan, binary32, add, mul}
 use Rattle.loops.specs.Front.{front, tab, tab-read, tab-more, getD-tab, length-tab}
 use Rattle.loops.specs.Sum.{sumTo, sum-none, sum-more}
-use Rattle.plc.specs.Const.{zero32, floor32}
+use Rattle.buffers.specs.Buffers.{zero32}
+use Rattle.plc.specs.Const.{floor32}
 use Rattle.plc.specs.Autocorr.{lagTerm, lagTo, lagSum, rowAt, lagRow, celtAutocorr}
 
 pub lag-none : (x : List Float) (lag end : ℕ) → end ≤ lag → zero32 ≡ lagTo x lag end

@@ -1,7 +1,3 @@
 -- laws that several proofs cite
-mod Answer
-mod Firs
-mod Iirs
 mod Lags
-mod Taps
 mod Turn

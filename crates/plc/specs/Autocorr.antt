@@ -7,7 +7,8 @@ use lib.Ieee.{Float, nan, binary32, add, mul}
 use Rattle.loops.specs.Fold.{foldTo, fold-keeps}
 use Rattle.loops.specs.Front.{tab, length-tab}
 use Rattle.loops.specs.Sum.{sumTo}
-use Rattle.plc.specs.Const.{zero32, floor32}
+use Rattle.buffers.specs.Buffers.{zero32}
+use Rattle.plc.specs.Const.{floor32}
 
 -- x[lag + k] * x[k]
 abbrev pub lagTerm : List Float → ℕ → ℕ → Float

@@ -9,7 +9,8 @@ use lib.Ieee.{Float, nan, binary32, add, sub, mul, div, neg, lt, eq}
 use Rattle.loops.specs.Fold.{foldTo, fold-suc, fold-keeps, fold-still}
 use Rattle.loops.specs.Pick.{pick-true, pick-false}
 use Rattle.loops.specs.Sum.{sumTo}
-use Rattle.plc.specs.Const.{zero32, small32}
+use Rattle.buffers.specs.Buffers.{zero32}
+use Rattle.plc.specs.Const.{small32}
 
 -- the sum of lpc[j] * ac[i - j] over j below n
 abbrev pub backTo : List Float → List Float → ℕ → ℕ → Float

@@ -1,8 +1,11 @@
 // The autocorrelation of 1,024 samples.
 ghost use mathlib.Core.Path.{_≡_};
-ghost use Prim.Native.Nat.{ℕ, _+_, _-_, _≤_, _<_};
+ghost use Prim.Native.Nat.{_+_, _-_, _≤_, _<_};
 ghost use lib.ListN.{length};
 ghost use Rattle.plc.specs.Autocorr.{celtAutocorr, windowedEnds, lagRow};
+
+// What the correlation at lag 0 rises by.
+const NOISE_FLOOR: f32 = 10.0;
 
 // The terms of each lag whose later sample stands before the longest lag.
 fn first_terms(x: &[f32], row: &mut [f32])
@@ -46,7 +49,7 @@ fn by_lag(x: &[f32], row: &[f32], ac: &mut [f32])
     for lag in 0..lags {
         ac[lag] = row[lags - 1 - lag];
     }
-    ac[0] = ac[0] + 10.0;
+    ac[0] = ac[0] + NOISE_FLOOR;
 }
 
 // The correlations at the lags 0 to 4.

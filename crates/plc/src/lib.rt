@@ -1,6 +1,4 @@
-// Correlation, linear prediction and the two filters of packet-loss concealment.
+// Correlation, its windowing, and the linear predictor of packet-loss concealment.
 pub mod autocorr;
-pub mod fir;
-pub mod iir;
+pub mod lag_window;
 pub mod lpc;
-mod pad;

@@ -29,7 +29,8 @@ abbrev μ-loop : tie.MeasureT-loop
     count - q
 
 -- the samples of the values of this turn lie within v
-inside : (c : tie.In-loop Inv-loop2 μ-loop2 Inv-loop μ-loop) → c .before .loop .j + c .before .before .before .before .before .args .downsample ≤ length (c .before .before .before .before .before .args .v .now)
+inside : (c : tie.In-loop Inv-loop2 μ-loop2 Inv-loop μ-loop)
+    → c .before .loop .j + c .before .before .before .before .before .args .downsample ≤ length (c .before .before .before .before .before .args .v .now)
 inside c =
     let h = c .before .loop in
     let a = c .before .before .before .before .before .args in

@@ -1,19 +1,19 @@
 use Prim.Native.Nat.{_%_}
 use borrow.Author.Needs.{needs}
 use borrow.Author.Tests.{lt-leb, le-leb, ne-eqb, eq-eqb}
-use Rattle.deemphasis.specs.Deemphasis.{fits}
+use Rattle.deemphasis.specs.Deemphasis.{hasRoom}
 use Rattle.deemphasis.proofs.has_room.Statement.{statement}
 use Rattle.deemphasis.proofs.has_room.Tie as tie
 
 returns : tie.Need-returns
-unfolding fits
+unfolding hasRoom
 returns c = rw (lt-leb 1 (c .before .args .downsample) (c .if1 .taken))
 
 rem-if2 : tie.Need-rem-if2
 rem-if2 c = search needs
 
 returns-2 : tie.Need-returns-2
-unfolding fits
+unfolding hasRoom
 returns-2 c =
     let d = c .before .before .args .downsample in
     let n = c .before .before .args .n in
@@ -23,7 +23,7 @@ div-result : tie.Need-div-result
 div-result c = search needs
 
 returns-3 : tie.Need-returns-3
-unfolding fits
+unfolding hasRoom
 returns-3 c =
     let d = c .before .before .args .downsample in
     let n = c .before .before .args .n in

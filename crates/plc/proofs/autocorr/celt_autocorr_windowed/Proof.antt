@@ -54,7 +54,9 @@ by-lag-requires c κs = let g = c .before .before .before .before .before .befor
     (search needs, search needs, f .ensures ∙ ap (λ z. lagRow x z (length x)) e)
 
 returns : tie.Need-returns
-returns c = c .before .by-lag .ensures ∙ ap (λ z. celtAutocorr z 25) (c .before .before .before .before .before .before .before .before .before .before .before .before .before .before .window-ends .ensures)
+returns c =
+    let w = c .before .before .before .before .before .before .before .before .before .before .before .before .before .before .window-ends in
+    c .before .by-lag .ensures ∙ ap (λ z. celtAutocorr z 25) (w .ensures)
 
 pub celt-autocorr-windowed-spec : {M : Type 1} → statement M
 celt-autocorr-windowed-spec =

@@ -1,0 +1,3 @@
+-- How the newest samples are continued, in the Rust's order: repeated cycle, fade, all-pole filter, guard.
+pub mod Guard
+pub mod Extrapolate

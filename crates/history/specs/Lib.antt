@@ -1,0 +1,2 @@
+-- The layout of a history, and its tails: what a loss may change.
+pub mod History

@@ -1,0 +1,129 @@
+-- What the functions that call others rest on.
+use mathlib.Core.Path.{_≡_, refl, ap, ap₂, _∙_, sym}
+use mathlib.Core.List.{List, [], _∷_, _++_, append-nil}
+use mathlib.Core.Bool.{Bool, true, false, _&&_}
+use Prim.Native.Nat.{ℕ, zero, suc, _+_, _*_, _-_, _^_, _≤_, _<_}
+use native.Mathlib.Omega.{arith}
+use lib.ListN.{length, take, drop, replicate, length-append, length-drop, length-replicate, drop-of-length-le}
+use lib.Seq.{length-take-le, take-at}
+use lib.Dec.{leb, ltb, eqb}
+use lib.Ieee.{Float}
+use borrow.Author.Tests.{leb-true, ltb-true, eq-eqb, ne-eqb}
+use Rattle.loops.specs.Fold.{foldRange}
+use Rattle.loops.specs.Front.{tab}
+use Rattle.loops.specs.Logic.{and-true, and-first, and-second}
+use Rattle.loops.specs.Reply.{reply, replyIf, reply-yes, reply-no}
+use Rattle.buffers.specs.Buffers.{zero32}
+use Rattle.mdct.specs.Imdct.{imdct, isFrameSize, frame-is, imdctTakes, imdctReply, takes, reply-outputs}
+use Rattle.noise_block.specs.Shape.{noiseShape}
+use Rattle.noise_block.specs.Spectrum.{gainTurn, bound, cleared, spectrum}
+use Rattle.noise_block.specs.Block.{windowed, Block, drawnBlock, noiseBlock}
+use Rattle.noise_block.specs.Call.{settingsFit, blockTakes}
+
+-- ---- the first k of an array of n zeros, lent and come back as y
+
+take-zeros : (k n : ℕ) → k ≤ n → take k (replicate n zero32) ≡ replicate k zero32
+take-zeros zero n h = refl
+take-zeros (suc k) zero h = let z : ⊥ = omega arith in absurd z
+take-zeros (suc k) (suc n) h = ap (λ z. zero32 ∷ z) (take-zeros k n (omega arith))
+
+module _ (k n : ℕ) (h : k ≤ n) where
+  pub lent-zeros : take k (replicate n zero32) ≡ replicate k zero32
+  lent-zeros = take-zeros k n h
+
+  pub lent-count : k ≡ length (take k (replicate n zero32))
+  lent-count = sym (length-take-le k (replicate n zero32) (omega (arith, length-replicate n zero32)))
+
+  module _ (y : List Float) (e : length y ≡ length (take k (replicate n zero32))) where
+    pub back-size : length y ≡ k
+    back-size = e ∙ sym lent-count
+
+    pub back-is : take k (y ++ drop k (replicate n zero32)) ≡ y
+    back-is = take-at y (drop k (replicate n zero32)) k back-size
+
+    pub back-in : k ≤ length (y ++ drop k (replicate n zero32))
+    back-in = omega (arith, length-append y (drop k (replicate n zero32)), back-size)
+
+    pub back-count : k ≡ length (take k (y ++ drop k (replicate n zero32)))
+    back-count = sym (ap length back-is ∙ back-size)
+
+-- ---- spectrum and block
+
+pub spectrum-is : (m start end d seed b : ℕ) (energies bins₀ x g y : List Float) → bins₀ ≡ replicate (120 * m) zero32
+    → x ≡ noiseShape m start seed bins₀ .bins → g ≡ foldRange (gainTurn m energies) x start end → b ≡ bound m end d → b ≤ length g
+    → y ≡ replicate (length (take (length g - b) (drop b g))) zero32
+    → take b g ++ (y ++ drop (length g - b) (drop b g)) ≡ spectrum m start end d seed energies
+unfolding spectrum cleared
+spectrum-is m start end d seed b energies bins₀ x g y e₀ ex eg eb h ey =
+    let l = length-drop b g in
+    let n : length (take (length g - b) (drop b g)) ≡ length g - b = length-take-le (length g - b) (drop b g) (omega arith) in
+    let k : drop (length g - b) (drop b g) ≡ [] = drop-of-length-le (drop b g) {i = length g - b} (omega arith) in
+    let w : g ≡ foldRange (gainTurn m energies) (noiseShape m start seed (replicate (120 * m) zero32) .bins) start end =
+    eg ∙ ap (λ z. foldRange (gainTurn m energies) z start end) (ex ∙ ap (λ z. noiseShape m start seed z .bins) e₀) in
+    ap (λ z. take b g ++ z)
+    (ap (λ z. y ++ z) k ∙ append-nil y ∙ ey ∙ ap (λ z. replicate z zero32) n)
+    ∙ ap₂ (λ p q. take p q ++ replicate (length q - p) zero32) eb w
+
+pub block-is : (m start end d seed : ℕ) (energies f xs out u us w : List Float) (took : Bool) → isFrameSize (120 * m) ≡ true → xs ≡ f
+    → f ≡ spectrum m start end d seed energies → length f ≡ 120 * m → length out ≡ 2 * (120 * m) → reply took u ≡ imdctReply xs out → us ≡ u
+    → w ≡ tab (windowed (120 * m) us) (120 * m + 120)
+    → w ≡ noiseBlock m start end d seed energies .samples
+unfolding noiseBlock
+block-is m start end d seed energies f xs out u us w took s ex ef lf lo eu es ew =
+    let l : length xs ≡ 120 * m = ap length ex ∙ lf in
+    let t : imdctTakes (length xs) (length out) ≡ true = takes (length xs) (length out) (ap isFrameSize l ∙ s) (omega arith) in
+    let v : u ≡ imdct (120 * m) (spectrum m start end d seed energies) = reply-outputs xs out eu t ∙ ap₂ imdct l (ex ∙ ef) in
+    ew ∙ ap (λ z. tab (windowed (120 * m) z) (120 * m + 120)) (es ∙ v)
+
+-- ---- refusals
+
+pub record Fits (lm start end downsample : ℕ) : Type 0 where
+  pub small : lm ≤ 3
+  pub some : start < end
+  pub last : end ≤ 21
+  pub every : 1 ≤ downsample
+
+pub fits : (lm start end d : ℕ) → settingsFit lm start end d ≡ true → Fits lm start end d
+unfolding settingsFit
+fits lm start end d e =
+    let p = and-true (leb lm 3) _ e in
+    let q = and-true (ltb start end) _ (p .1) in
+    let r = and-true (leb end 21) _ (q .1) in
+    record { small = leb-true lm 3 (p .0); some = ltb-true start end (q .0); last = leb-true end 21 (r .0); every = leb-true 1 d (r .1) }
+
+pub frame-fits : (lm m : ℕ) → lm ≤ 3 → m ≡ 2 ^ lm → isFrameSize (120 * m) ≡ true
+frame-fits lm m h e = ap (λ z. isFrameSize (120 * z)) e ∙ frame-is lm h
+
+module _ (lm start end d seed : ℕ) (energies buffer : List Float) where
+  abbrev block-fits : Bool
+  block-fits = blockTakes lm start end d (length energies) (length buffer)
+
+  abbrev drawn : Block
+  drawn = noiseBlock (2 ^ lm) start end d seed energies
+
+  pub block-taken : (m s : ℕ) (y : List Float) → settingsFit lm start end d ≡ true → length energies ≡ 25 → length buffer ≡ 120 * m + 120 → m ≡ 2 ^ lm
+      → s ≡ noiseBlock m start end d seed energies .seed → y ≡ noiseBlock m start end d seed energies .samples
+      → reply true (drawnBlock y s) ≡ replyIf block-fits drawn (drawnBlock buffer seed)
+  unfolding blockTakes
+  block-taken m s y f l b e es ey =
+      reply-yes _ _ _
+      (ap₂ _&&_ f (ap₂ _&&_ (eq-eqb (length energies) 25 l) (eq-eqb (length buffer) (120 * 2 ^ lm + 120) (b ∙ ap (λ z. 120 * z + 120) e))))
+      (ap₂ drawnBlock ey es ∙ ap (λ z. noiseBlock z start end d seed energies) e)
+
+  refused : block-fits ≡ false → reply false (drawnBlock buffer seed) ≡ replyIf block-fits drawn (drawnBlock buffer seed)
+  refused e = reply-no _ _ _ e refl
+
+  pub block-unfit : settingsFit lm start end d ≡ false → reply false (drawnBlock buffer seed) ≡ replyIf block-fits drawn (drawnBlock buffer seed)
+  unfolding blockTakes
+  block-unfit f = refused (and-first (settingsFit lm start end d) _ f)
+
+  pub block-bands : (length energies ≡ 25 → ⊥) → reply false (drawnBlock buffer seed) ≡ replyIf block-fits drawn (drawnBlock buffer seed)
+  unfolding blockTakes
+  block-bands f = refused (and-second (settingsFit lm start end d) _ (and-first _ _ (ne-eqb (length energies) 25 f)))
+
+  pub block-size : (m : ℕ) → m ≡ 2 ^ lm → (length buffer ≡ 120 * m + 120 → ⊥) → reply false (drawnBlock buffer seed) ≡ replyIf block-fits drawn (drawnBlock buffer seed)
+  unfolding blockTakes
+  block-size m e f =
+      refused
+      (and-second (settingsFit lm start end d) _
+      (and-second (eqb (length energies) 25) _ (ne-eqb (length buffer) (120 * 2 ^ lm + 120) (λ q. f (q ∙ ap (λ z. 120 * z + 120) (sym e))))))

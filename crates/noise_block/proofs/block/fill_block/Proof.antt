@@ -1,0 +1,105 @@
+use mathlib.Core.Path.{sym}
+use Prim.Native.Nat.{_≤_, _-_, _*_}
+use native.Mathlib.Omega.{arith}
+use borrow.Author.Needs.{needs}
+use Rattle.noise_block.specs.Block.{noiseBlock}
+use Rattle.noise_block.proofs.Calls.{lent-zeros, lent-count, back-size, back-is, back-in, back-count, block-is}
+use Rattle.noise_block.proofs.block.fill_block.Statement.{statement}
+use Rattle.noise_block.proofs.block.fill_block.Tie as tie
+
+few : (c : tie.Start) → 120 ≤ 120 * c .args .m
+few c = omega (arith, c .pre .0)
+
+small : (c : tie.Start) → 120 * c .args .m ≤ 960
+small c = omega (arith, c .pre .1)
+
+twice : (c : tie.Start) → 2 * (120 * c .args .m) ≤ 1920
+twice c = omega (arith, c .pre .1)
+
+mul-n : tie.Need-mul-n
+mul-n c = search needs
+
+mul-k : tie.Need-mul-k
+mul-k c = search needs
+
+array-borrow-prefix-bins : tie.Need-array-borrow-prefix-bins
+array-borrow-prefix-bins c = search needs
+
+slice-aggregate-fill-spectrum : tie.Need-slice-aggregate-fill-spectrum
+slice-aggregate-fill-spectrum c =
+    lent-count (120 * c .before .before .before .args .m) 960 (small (c .before .before .before))
+
+fill-spectrum-requires : tie.Need-fill-spectrum-requires
+fill-spectrum-requires c κs =
+    let p = c .before .before .before .pre in
+    (p .1, p .3, p .4, p .5, lent-zeros (120 * c .before .before .before .args .m) 960 (small (c .before .before .before)), p .7)
+
+array-share-prefix-bins : tie.Need-array-share-prefix-bins
+array-share-prefix-bins c =
+    back-in (120 * c .before .before .before .before .before .args .m) 960 (small (c .before .before .before .before .before)) (c .before .fill-spectrum .last .0) (c .before .fill-spectrum .kept .0)
+
+slice-aggregate-imdct-naive-f32 : tie.Need-slice-aggregate-imdct-naive-f32
+slice-aggregate-imdct-naive-f32 c =
+    back-count (120 * c .before .before .before .before .before .before .args .m) 960 (small (c .before .before .before .before .before .before)) (c .before .before .fill-spectrum .last .0) (c .before .before .fill-spectrum .kept .0)
+
+array-borrow-prefix-u : tie.Need-array-borrow-prefix-u
+array-borrow-prefix-u c = search needs
+
+slice-aggregate-imdct-naive-f32-2 : tie.Need-slice-aggregate-imdct-naive-f32-2
+slice-aggregate-imdct-naive-f32-2 c =
+    lent-count (2 * (120 * c .before .before .before .before .before .before .before .args .m)) 1920 (twice (c .before .before .before .before .before .before .before))
+
+imdct-naive-f32-requires : tie.Need-imdct-naive-f32-requires
+imdct-naive-f32-requires c κs = search needs
+
+array-share-prefix-u : tie.Need-array-share-prefix-u
+array-share-prefix-u c =
+    back-in (2 * (120 * c .before .before .before .before .before .before .before .before .before .before .args .m)) 1920 (twice (c .before .before .before .before .before .before .before .before .before .before)) (c .before .before .imdct-naive-f32 .last .1 .0) (c .before .before .imdct-naive-f32 .kept .1 .0)
+
+slice-aggregate-window-outputs : tie.Need-slice-aggregate-window-outputs
+slice-aggregate-window-outputs c =
+    back-count (2 * (120 * c .before .before .before .before .before .before .before .before .before .before .before .args .m)) 1920 (twice (c .before .before .before .before .before .before .before .before .before .before .before)) (c .before .before .before .imdct-naive-f32 .last .1 .0) (c .before .before .before .imdct-naive-f32 .kept .1 .0)
+
+window-outputs-requires : tie.Need-window-outputs-requires
+window-outputs-requires c κs =
+    let o = c .before .before .before .before .before .before .before .before .before .before .before in
+    let i = c .before .before .before .imdct-naive-f32 in
+    let p = o .pre in
+    (few o, small o, sym (back-count (2 * (120 * o .args .m)) 1920 (twice o) (i .last .1 .0) (i .kept .1 .0)), p .6)
+
+same-length : tie.Need-same-length
+same-length c = search needs
+
+returns : tie.Need-returns
+unfolding noiseBlock
+returns c =
+    let o = c .before .before .before .before .before .before .before .before .before .before .before .before .before .before in
+    let a = o .args in
+    let f = c .before .before .before .before .before .before .before .before .before .before .fill-spectrum in
+    let i = c .before .before .before .before .before .before .imdct-naive-f32 in
+    let n = 120 * a .m in (
+      f .ensures .0,
+      block-is (a .m) (a .start) (a .end) (a .downsample) (a .seed) (a .energies .now) (f .last .0) _ _ (i .last .1 .0) _ (c .before .before .window-outputs .last .0)
+          (o .pre .2) (back-is n 960 (small o) (f .last .0) (f .kept .0)) (f .ensures .1) (back-size n 960 (small o) (f .last .0) (f .kept .0))
+          (sym (lent-count (2 * n) 1920 (twice o))) (i .ensures .1) (back-is (2 * n) 1920 (twice o) (i .last .1 .0) (i .kept .1 .0)) (c .before .before .window-outputs .ensures),
+    )
+
+pub fill-block-spec : {M : Type 1} → statement M
+fill-block-spec =
+    tie.close
+    (tie.spec
+    mul-n
+    mul-k
+    array-borrow-prefix-bins
+    slice-aggregate-fill-spectrum
+    fill-spectrum-requires
+    array-share-prefix-bins
+    slice-aggregate-imdct-naive-f32
+    array-borrow-prefix-u
+    slice-aggregate-imdct-naive-f32-2
+    imdct-naive-f32-requires
+    array-share-prefix-u
+    slice-aggregate-window-outputs
+    window-outputs-requires
+    same-length
+    returns)

@@ -1,0 +1,5 @@
+-- A noise block: shape, spectrum, block.
+pub mod Shape
+pub mod Spectrum
+pub mod Block
+pub mod Call

@@ -1,0 +1,4 @@
+-- laws that several proofs cite
+mod Firs
+mod Iirs
+mod Taps

@@ -1,0 +1,3 @@
+pub mod Passed
+mod Table
+pub mod Keep

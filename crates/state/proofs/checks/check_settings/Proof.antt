@@ -1,0 +1,55 @@
+-- `state::checks::check_settings` meets its contract: the first of five.
+use Rattle.state.specs.Settings.{checkSettings}
+use borrow.Author.Needs.{needs}
+use Rattle.state.proofs.checks.check_settings.Statement.{statement}
+use Rattle.state.proofs.checks.check_settings.Tie as tie
+
+unless-requires : tie.Need-unless-requires
+unless-requires c κs = search needs
+
+is-within-requires : tie.Need-is-within-requires
+is-within-requires c κs = search needs
+
+unless-requires-2 : tie.Need-unless-requires-2
+unless-requires-2 c κs = search needs
+
+unless-requires-3 : tie.Need-unless-requires-3
+unless-requires-3 c κs = search needs
+
+check-end-requires : tie.Need-check-end-requires
+check-end-requires c κs = search needs
+
+check-downsample-requires : tie.Need-check-downsample-requires
+check-downsample-requires c κs = search needs
+
+or-else-requires : tie.Need-or-else-requires
+or-else-requires c κs = search needs
+
+or-else-requires-2 : tie.Need-or-else-requires-2
+or-else-requires-2 c κs = search needs
+
+or-else-requires-3 : tie.Need-or-else-requires-3
+or-else-requires-3 c κs = search needs
+
+or-else-requires-4 : tie.Need-or-else-requires-4
+or-else-requires-4 c κs = search needs
+
+returns : tie.Need-returns
+unfolding checkSettings
+returns c = cc
+
+pub check-settings-spec : {M : Type 1} → statement M
+check-settings-spec =
+    tie.close
+    (tie.spec
+    unless-requires
+    is-within-requires
+    unless-requires-2
+    unless-requires-3
+    check-end-requires
+    check-downsample-requires
+    or-else-requires
+    or-else-requires-2
+    or-else-requires-3
+    or-else-requires-4
+    returns)
