@@ -1,9 +1,9 @@
 // Ops 201 to 208: sums over a signal, the predictor, the two filters.
 use crate::words;
 use plc::autocorr;
-use plc::fir;
-use plc::iir;
 use plc::lpc;
+use plc_filter::fir;
+use plc_filter::iir;
 
 fn answer_autocorr() -> bool {
     let mut x = [0.0f32; 1024];
@@ -16,9 +16,7 @@ fn answer_autocorr() -> bool {
 
 fn answer_windowed() -> bool {
     let mut x = [0.0f32; 1024];
-    if !words::read_floats(&mut x) {
-        return false;
-    }
+    words::read_floats(&mut x);
     let mut window = [0.0f32; 120];
     if !words::read_floats(&mut window) {
         return false;
@@ -31,7 +29,8 @@ fn answer_lpc(ac: &mut [f32], coefficients: &mut [f32]) -> bool {
     if !words::read_floats(ac) {
         return false;
     }
-    if !lpc::celt_lpc(coefficients, ac) {
+    let solved = lpc::celt_lpc(coefficients, ac);
+    if !solved.taken {
         return false;
     }
     words::write_floats(coefficients)
@@ -51,12 +50,8 @@ fn answer_lpc_4() -> bool {
 
 fn answer_fir(num: &mut [f32], mem: &mut [f32]) -> bool {
     let mut x = [0.0f32; 1024];
-    if !words::read_floats(&mut x) {
-        return false;
-    }
-    if !words::read_floats(num) {
-        return false;
-    }
+    words::read_floats(&mut x);
+    words::read_floats(num);
     if !words::read_floats(mem) {
         return false;
     }
@@ -95,13 +90,9 @@ fn filter_front(x: &mut [f32], n: usize, den: &[f32; 24], mem: &[f32; 24]) -> bo
 fn answer_iir() -> bool {
     let n = words::read_word();
     let mut x = [0.0f32; 1200];
-    if !words::read_floats(&mut x) {
-        return false;
-    }
+    words::read_floats(&mut x);
     let mut den = [0.0f32; 24];
-    if !words::read_floats(&mut den) {
-        return false;
-    }
+    words::read_floats(&mut den);
     let mut mem = [0.0f32; 24];
     if !words::read_floats(&mut mem) {
         return false;

@@ -1,72 +1,72 @@
 // Op 701: the de-emphasis of one frame.
 use crate::words;
-use deemphasis::Voice;
+use deemphasis::Deemphasised;
 use deemphasis::deemphasis_mono;
 use deemphasis::deemphasis_stereo;
+use state::sizes::frame_size;
 
-// A frame's samples; none for an lm above 3.
-fn frame(lm: u32) -> usize {
-    match lm {
-        0 => 120,
-        1 => 240,
-        2 => 480,
-        3 => 960,
-        _ => 0,
-    }
-}
-
-// What comes ahead of the samples; `whole` is false where the input ended first.
-struct Head {
-    samples: usize,
-    stereo: bool,
-    downsample: usize,
+// The first n samples of v.
+fn mono(
+    v: &[f32],
+    n: usize,
     memories: [f32; 2],
-    whole: bool,
-}
-
-fn read_head() -> Head {
-    let lm = words::read_word();
-    let channels = words::read_word();
-    let downsample = words::read_word();
-    let mut memories = [0.0f32; 2];
-    let whole = words::read_floats(&mut memories);
-    Head {
-        samples: frame(lm.value),
-        stereo: channels.value == 2,
-        downsample: downsample.value as usize,
-        memories: memories,
-        whole: whole,
-    }
-}
-
-// The first samples of v and of w.
-fn sound(h: Head, v: &[f32], w: &[f32], pcm: &mut [f32]) -> Voice {
-    let n = h.samples;
-    let memories = h.memories;
-    if v.len() < n || w.len() < n {
-        return Voice {
-            done: false,
+    downsample: usize,
+    pcm: &mut [f32],
+) -> Deemphasised {
+    if v.len() < n {
+        return Deemphasised {
+            taken: false,
             memories: memories,
         };
     }
-    if h.stereo {
-        return deemphasis_stereo(&v[..n], &w[..n], memories, h.downsample, pcm);
+    deemphasis_mono(&v[..n], memories, downsample, pcm)
+}
+
+// The first n samples of v and of w.
+fn stereo(
+    v: &[f32],
+    w: &[f32],
+    n: usize,
+    memories: [f32; 2],
+    downsample: usize,
+    pcm: &mut [f32],
+) -> Deemphasised {
+    if v.len() < n || w.len() < n {
+        return Deemphasised {
+            taken: false,
+            memories: memories,
+        };
     }
-    deemphasis_mono(&v[..n], memories, h.downsample, pcm)
+    deemphasis_stereo(&v[..n], &w[..n], memories, downsample, pcm)
+}
+
+// Three words ahead of a case's floats: lm, channels and downsample.
+fn sound(k: [u32; 3], v: &[f32], w: &[f32], memories: [f32; 2], pcm: &mut [f32]) -> Deemphasised {
+    let n = frame_size(k[0]);
+    let downsample = k[2] as usize;
+    if k[1] == 2 {
+        return stereo(v, w, n, memories, downsample, pcm);
+    }
+    mono(v, n, memories, downsample, pcm)
 }
 
 fn answer_frame() -> bool {
-    let h = read_head();
+    let mut k = [0u32; 3];
+    words::read_words(&mut k);
+    let mut memories = [0.0f32; 2];
+    words::read_floats(&mut memories);
     let mut v = [0.0f32; 960];
+    words::read_floats(&mut v);
     let mut w = [0.0f32; 960];
-    if !words::read_floats(&mut v) || !words::read_floats(&mut w) {
+    if !words::read_floats(&mut w) {
         return false;
     }
     let mut pcm = [0.0f32; 1920];
-    let r = sound(h, &v, &w, &mut pcm);
-    if !r.done || !words::write_floats(&pcm) {
+    let r = sound(k, &v, &w, memories, &mut pcm);
+    if !r.taken {
         return false;
     }
+    words::write_floats(&pcm);
     let after = r.memories;
     words::write_floats(&after)
 }

@@ -2,6 +2,7 @@
 use crate::words;
 use mdct::imdct;
 use mdct::window;
+use state::sizes::frame_size;
 
 fn answer_window() -> bool {
     let i = words::read_word();
@@ -13,15 +14,6 @@ fn answer_window() -> bool {
     words::write_float(w[at])
 }
 
-fn frame(lm: u32) -> usize {
-    match lm {
-        0 => 120,
-        1 => 240,
-        2 => 480,
-        _ => 960,
-    }
-}
-
 fn answer_long_window() -> bool {
     let lm = words::read_word();
     let j = words::read_word();
@@ -29,7 +21,7 @@ fn answer_long_window() -> bool {
         return false;
     }
     let w = window::window();
-    words::write_float(window::low_overlap_window(&w, frame(lm.value), j.value as usize))
+    words::write_float(window::low_overlap_window(&w, frame_size(lm.value), j.value as usize))
 }
 
 fn answer_cosine() -> bool {
@@ -42,38 +34,27 @@ fn answer_cosine() -> bool {
     words::write_double(c[at])
 }
 
-fn answer_sum(spectrum: &mut [f32], out: &mut [f32]) -> bool {
-    if !words::read_floats(spectrum) {
+// The first n bins summed to the first m samples.
+fn sum(spectrum: &[f32], n: usize, out: &mut [f32], m: usize) -> bool {
+    if spectrum.len() < n {
         return false;
     }
-    if !imdct::imdct_naive_f32(spectrum, out) {
+    if out.len() < m {
         return false;
     }
-    words::write_floats(out)
+    imdct::imdct_naive_f32(&spectrum[..n], &mut out[..m])
 }
 
-fn answer_sum_120() -> bool {
-    let mut spectrum = [0.0f32; 120];
-    let mut out = [0.0f32; 240];
-    answer_sum(&mut spectrum, &mut out)
-}
-
-fn answer_sum_240() -> bool {
-    let mut spectrum = [0.0f32; 240];
-    let mut out = [0.0f32; 480];
-    answer_sum(&mut spectrum, &mut out)
-}
-
-fn answer_sum_480() -> bool {
-    let mut spectrum = [0.0f32; 480];
-    let mut out = [0.0f32; 960];
-    answer_sum(&mut spectrum, &mut out)
-}
-
-fn answer_sum_960() -> bool {
+fn answer_sum(n: usize, m: usize) -> bool {
     let mut spectrum = [0.0f32; 960];
+    if !words::read_first(&mut spectrum, n) {
+        return false;
+    }
     let mut out = [0.0f32; 1920];
-    answer_sum(&mut spectrum, &mut out)
+    if !sum(&spectrum, n, &mut out, m) {
+        return false;
+    }
+    words::write_first(&out, m)
 }
 
 pub(crate) fn answer(op: u32) -> bool {
@@ -81,10 +62,10 @@ pub(crate) fn answer(op: u32) -> bool {
         601 => answer_window(),
         602 => answer_long_window(),
         603 => answer_cosine(),
-        611 => answer_sum_120(),
-        612 => answer_sum_240(),
-        613 => answer_sum_480(),
-        614 => answer_sum_960(),
+        611 => answer_sum(120, 240),
+        612 => answer_sum(240, 480),
+        613 => answer_sum(480, 960),
+        614 => answer_sum(960, 1920),
         _ => false,
     }
 }

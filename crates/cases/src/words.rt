@@ -1,4 +1,5 @@
-// Little-endian words on standard input and output.
+// Little-endian words on standard input and output. Where the input ends, or the output takes no more, what is read or
+// written after it ends too: of several in a row the last tells of all.
 use float_bits::words::f32_from_word;
 use float_bits::words::f32_to_word;
 ghost use Prim.Native.Nat.{_<_};
@@ -15,20 +16,18 @@ fn wide(b: u8) -> u32
     b as u32
 }
 
+fn word_of(b: [u8; 4]) -> u32 {
+    let low = wide(b[0]) + wide(b[1]) * 0x100;
+    let high = wide(b[2]) + wide(b[3]) * 0x100;
+    low + high * 0x1_0000
+}
+
 pub(crate) fn read_word() -> Word {
     let mut b = [0u8; 4];
     let n = io::read_full(libc::STDIN_FILENO, &mut b);
-    if n < 4 {
-        return Word {
-            value: 0,
-            whole: false,
-        };
-    }
-    let low = wide(b[0]) + wide(b[1]) * 0x100;
-    let high = wide(b[2]) + wide(b[3]) * 0x100;
     Word {
-        value: low + high * 0x1_0000,
-        whole: true,
+        value: word_of(b),
+        whole: n == 4,
     }
 }
 

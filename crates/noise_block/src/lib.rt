@@ -57,7 +57,7 @@ pub fn noise_block(
 ) -> Drawn
     ensures { λ r. ⌜ reply (r .taken) (drawnBlock (now (block .exit)) (r .seed))
         ≡ replyIf (blockTakes lm start end downsample (length (now (energies .entry))) (length (now (block .entry))))
-            (noiseBlock (2 ^ lm) start end downsample seed (now (energies .entry))) (drawnBlock (now (block .entry)) seed) ⌝ }
+        (noiseBlock (2 ^ lm) start end downsample seed (now (energies .entry))) (drawnBlock (now (block .entry)) seed) ⌝ }
 {
     let size = block.len();
     let bands = energies.len();

@@ -1,8 +1,8 @@
 use mathlib.Core.Path.{sym}
 use lib.Seq.{length-take-le}
 use borrow.Author.Needs.{needs}
-use Rattle.cases.proofs.frames.sound.Statement.{statement}
-use Rattle.cases.proofs.frames.sound.Tie as tie
+use Rattle.cases.proofs.frames.stereo.Statement.{statement}
+use Rattle.cases.proofs.frames.stereo.Tie as tie
 
 returns : tie.Need-returns
 returns c = search needs
@@ -22,20 +22,8 @@ same-length c = search needs
 returns-2 : tie.Need-returns-2
 returns-2 c = search needs
 
-slice-aggregate-deemphasis-mono : tie.Need-slice-aggregate-deemphasis-mono
-slice-aggregate-deemphasis-mono c = sym (length-take-le _ _ (search needs))
-
-deemphasis-mono-requires : tie.Need-deemphasis-mono-requires
-deemphasis-mono-requires c κs = search needs
-
-same-length-2 : tie.Need-same-length-2
-same-length-2 c = search needs
-
-returns-3 : tie.Need-returns-3
-returns-3 c = search needs
-
-pub sound-spec : {M : Type 1} → statement M
-sound-spec =
+pub stereo-spec : {M : Type 1} → statement M
+stereo-spec =
     tie.close
     (tie.spec
     returns
@@ -43,8 +31,4 @@ sound-spec =
     slice-aggregate-deemphasis-stereo-2
     deemphasis-stereo-requires
     same-length
-    returns-2
-    slice-aggregate-deemphasis-mono
-    deemphasis-mono-requires
-    same-length-2
-    returns-3)
+    returns-2)
