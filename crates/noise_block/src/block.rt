@@ -13,6 +13,9 @@ ghost use Rattle.custom_mode.specs.Mode.{shortBlock, overlap, bands, maxBands};
 ghost use Rattle.mdct.specs.Imdct.{isFrameSize};
 ghost use Rattle.noise_block.specs.Block.{windowed, noiseBlock};
 
+// The longest frame.
+const FRAME_MOST: usize = 960;
+
 // Twice each output, times the window.
 fn window_outputs(block: &mut [f32], u: &[f32], n: usize)
     requires { ⌜ (overlap ≤ n) × (n ≤ 960) × (length (now u) ≡ 2 * n) × (length (now block) ≡ n + overlap) ⌝ }
@@ -43,8 +46,8 @@ pub(crate) fn fill_block(
 {
     let n = SHORT_BLOCK * m;
     let k = 2 * n;
-    let mut bins = [0.0f32; 960];
-    let mut u = [0.0f32; 1920];
+    let mut bins = [0.0f32; FRAME_MOST];
+    let mut u = [0.0f32; 2 * FRAME_MOST];
     let s = super::spectrum::fill_spectrum(
         &mut bins[..n],
         m,

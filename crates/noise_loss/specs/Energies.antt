@@ -7,6 +7,7 @@ use lib.ListN.{length, getD}
 use lib.Dec.{leb, ltb, eqb}
 use lib.Ieee.{Float, nan, binary32, ofBits, sub}
 use Rattle.loops.specs.Front.{tab, length-tab}
+use Rattle.custom_mode.specs.Mode.{maxBands}
 
 -- 1.5 at loss count 0, else 0.5
 unfoldable pub decay : ℕ → Float
@@ -14,7 +15,7 @@ decay count = cond (eqb count 0) (ofBits binary32 0x3fc0_0000) (ofBits binary32 
 
 -- whether place i is that of a band from start to just below end of a used channel
 unfoldable pub drops : ℕ → ℕ → ℕ → ℕ → Bool
-drops channels start end i = ltb (i / 25) channels && (leb start (i % 25) && ltb (i % 25) end)
+drops channels start end i = ltb (i / maxBands) channels && (leb start (i % maxBands) && ltb (i % maxBands) end)
 
 -- what stands at place i after the drop
 unfoldable pub droppedAt : ℕ → ℕ → ℕ → ℕ → List Float → ℕ → Float

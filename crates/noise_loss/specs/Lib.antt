@@ -1,7 +1,4 @@
--- The noise path of one loss: energies, spectrum, block, and the block laid over a channel's history.
+-- The noise path of one loss: energies, and the blocks over a history.
 pub mod Energies
-pub mod Shape
-pub mod Spectrum
-pub mod Block
-pub mod Laid
-pub mod Channel
+pub mod Cover
+pub mod Loss

@@ -2,6 +2,7 @@
 ghost use mathlib.Core.Path.{_≡_};
 ghost use mathlib.Core.Bool.{cond};
 ghost use lib.Ieee.{binary32, sub};
+use custom_mode::standard::MAX_BANDS;
 ghost use Rattle.noise_loss.specs.Energies.{decay, drops, lowerEnergies, readEnergies};
 
 fn decay_of(count: u32) -> f32
@@ -14,8 +15,8 @@ fn decay_of(count: u32) -> f32
 fn dropped(energy: f32, i: usize, channels: usize, start: usize, end: usize, by: f32) -> f32
     ensures { λ r. ⌜ r ≡ cond (drops channels start end i) (sub binary32 energy by) energy ⌝ }
 {
-    let band = i % 25;
-    if i / 25 < channels {
+    let band = i % MAX_BANDS;
+    if i / MAX_BANDS < channels {
         if start <= band {
             if band < end {
                 return energy - by;

@@ -1,7 +1,9 @@
-use mathlib.Core.Path.{_∙_, sym}
-use Prim.Native.Nat.{_-_}
+use mathlib.Core.Path.{_≡_, _∙_, sym}
+use mathlib.Core.Bool.{true}
+use Prim.Native.Nat.{_-_, _*_}
 use native.Mathlib.Omega.{arith}
 use borrow.Author.Needs.{needs}
+use Rattle.mdct.specs.Imdct.{isFrameSize}
 use Rattle.noise_block.proofs.Calls.{fits, frame-fits, block-taken, block-unfit, block-bands, block-size}
 use Rattle.noise_block.proofs.noise_block.Statement.{statement}
 use Rattle.noise_block.proofs.noise_block.Tie as tie
@@ -26,7 +28,8 @@ fill-block-requires c κs =
     let o = c .before .before .before .before .before .before .before .before in
     let g = c .before .before .before in
     let f = fits (o .args .lm) (o .args .start) (o .args .end) (o .args .downsample) (sym (g .before .before .settings-fit .ensures) ∙ g .before .if1 .taken) in
-    (g .factor .ensures .1, g .factor .ensures .2, frame-fits (o .args .lm) (g .factor .result) (f .small) (g .factor .ensures .0), omega arith, f .last, f .every, c .before .if3 .taken, c .before .before .if2 .taken)
+    let w : isFrameSize (120 * g .factor .result) ≡ true = frame-fits (o .args .lm) (g .factor .result) (f .small) (g .factor .ensures .0) in
+    (g .factor .ensures .1, g .factor .ensures .2, w, omega arith, f .last, f .every, c .before .if3 .taken, c .before .before .if2 .taken)
 
 same-length : tie.Need-same-length
 same-length c = search needs
@@ -35,25 +38,27 @@ returns : tie.Need-returns
 returns c =
     let g = c .before .before .before .before .before .before in
     let o = g .before .before .before .before .before in
+    let a = o .args in
     let r = c .before .before .fill-block in
-    block-taken (o .args .lm) (o .args .start) (o .args .end) (o .args .downsample) (o .args .seed) (o .args .energies .now) (o .args .block .now) (g .factor .result) (r .result) (r .last .0)
-    (sym (g .before .before .settings-fit .ensures) ∙ g .before .if1 .taken) (c .before .before .before .before .before .if2 .taken) (c .before .before .before .before .if3 .taken) (g .factor .ensures .0) (r .ensures .0) (r .ensures .1)
+    block-taken (a .lm) (a .start) (a .end) (a .downsample) (a .seed) (a .energies .now) (a .block .now) (g .factor .result) (r .result) (r .last .0)
+    (sym (g .before .before .settings-fit .ensures) ∙ g .before .if1 .taken) (c .before .before .before .before .before .if2 .taken)
+    (c .before .before .before .before .if3 .taken) (g .factor .ensures .0) (r .ensures .0) (r .ensures .1)
 
 returns-2 : tie.Need-returns-2
 returns-2 c =
     let g = c .before .before in
-    let o = g .before .before .before .before .before in
-    block-size (o .args .lm) (o .args .start) (o .args .end) (o .args .downsample) (o .args .seed) (o .args .energies .now) (o .args .block .now) (g .factor .result) (g .factor .ensures .0) (c .if3 .left)
+    let a = g .before .before .before .before .before .args in
+    block-size (a .lm) (a .start) (a .end) (a .downsample) (a .seed) (a .energies .now) (a .block .now) (g .factor .result) (g .factor .ensures .0) (c .if3 .left)
 
 returns-3 : tie.Need-returns-3
 returns-3 c =
-    let o = c .before .before .before .before .before .before in
-    block-bands (o .args .lm) (o .args .start) (o .args .end) (o .args .downsample) (o .args .seed) (o .args .energies .now) (o .args .block .now) (c .if2 .left)
+    let a = c .before .before .before .before .before .before .args in
+    block-bands (a .lm) (a .start) (a .end) (a .downsample) (a .seed) (a .energies .now) (a .block .now) (c .if2 .left)
 
 returns-4 : tie.Need-returns-4
 returns-4 c =
-    let o = c .before .before .before .before in
-    block-unfit (o .args .lm) (o .args .start) (o .args .end) (o .args .downsample) (o .args .seed) (o .args .energies .now) (o .args .block .now) (sym (c .before .settings-fit .ensures) ∙ c .if1 .left)
+    let a = c .before .before .before .before .args in
+    block-unfit (a .lm) (a .start) (a .end) (a .downsample) (a .seed) (a .energies .now) (a .block .now) (sym (c .before .settings-fit .ensures) ∙ c .if1 .left)
 
 pub noise-block-spec : {M : Type 1} → statement M
 noise-block-spec =

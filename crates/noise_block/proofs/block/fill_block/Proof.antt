@@ -36,29 +36,38 @@ fill-spectrum-requires c κs =
 
 array-share-prefix-bins : tie.Need-array-share-prefix-bins
 array-share-prefix-bins c =
-    back-in (120 * c .before .before .before .before .before .args .m) 960 (small (c .before .before .before .before .before)) (c .before .fill-spectrum .last .0) (c .before .fill-spectrum .kept .0)
+    let o = c .before .before .before .before .before in
+    let f = c .before .fill-spectrum in
+    back-in (120 * o .args .m) 960 (small o) (f .last .0) (f .kept .0)
 
 slice-aggregate-imdct-naive-f32 : tie.Need-slice-aggregate-imdct-naive-f32
 slice-aggregate-imdct-naive-f32 c =
-    back-count (120 * c .before .before .before .before .before .before .args .m) 960 (small (c .before .before .before .before .before .before)) (c .before .before .fill-spectrum .last .0) (c .before .before .fill-spectrum .kept .0)
+    let o = c .before .before .before .before .before .before in
+    let f = c .before .before .fill-spectrum in
+    back-count (120 * o .args .m) 960 (small o) (f .last .0) (f .kept .0)
 
 array-borrow-prefix-u : tie.Need-array-borrow-prefix-u
 array-borrow-prefix-u c = search needs
 
 slice-aggregate-imdct-naive-f32-2 : tie.Need-slice-aggregate-imdct-naive-f32-2
 slice-aggregate-imdct-naive-f32-2 c =
-    lent-count (2 * (120 * c .before .before .before .before .before .before .before .args .m)) 1920 (twice (c .before .before .before .before .before .before .before))
+    let o = c .before .before .before .before .before .before .before in
+    lent-count (2 * (120 * o .args .m)) 1920 (twice o)
 
 imdct-naive-f32-requires : tie.Need-imdct-naive-f32-requires
 imdct-naive-f32-requires c κs = search needs
 
 array-share-prefix-u : tie.Need-array-share-prefix-u
 array-share-prefix-u c =
-    back-in (2 * (120 * c .before .before .before .before .before .before .before .before .before .before .args .m)) 1920 (twice (c .before .before .before .before .before .before .before .before .before .before)) (c .before .before .imdct-naive-f32 .last .1 .0) (c .before .before .imdct-naive-f32 .kept .1 .0)
+    let o = c .before .before .before .before .before .before .before .before .before .before in
+    let i = c .before .before .imdct-naive-f32 in
+    back-in (2 * (120 * o .args .m)) 1920 (twice o) (i .last .1 .0) (i .kept .1 .0)
 
 slice-aggregate-window-outputs : tie.Need-slice-aggregate-window-outputs
 slice-aggregate-window-outputs c =
-    back-count (2 * (120 * c .before .before .before .before .before .before .before .before .before .before .before .args .m)) 1920 (twice (c .before .before .before .before .before .before .before .before .before .before .before)) (c .before .before .before .imdct-naive-f32 .last .1 .0) (c .before .before .before .imdct-naive-f32 .kept .1 .0)
+    let o = c .before .before .before .before .before .before .before .before .before .before .before in
+    let i = c .before .before .before .imdct-naive-f32 in
+    back-count (2 * (120 * o .args .m)) 1920 (twice o) (i .last .1 .0) (i .kept .1 .0)
 
 window-outputs-requires : tie.Need-window-outputs-requires
 window-outputs-requires c κs =
@@ -79,9 +88,11 @@ returns c =
     let i = c .before .before .before .before .before .before .imdct-naive-f32 in
     let n = 120 * a .m in (
       f .ensures .0,
-      block-is (a .m) (a .start) (a .end) (a .downsample) (a .seed) (a .energies .now) (f .last .0) _ _ (i .last .1 .0) _ (c .before .before .window-outputs .last .0)
+      block-is (a .m) (a .start) (a .end) (a .downsample) (a .seed) (a .energies .now) (f .last .0) _ _ (i .last .1 .0) _
+          (c .before .before .window-outputs .last .0) (i .result)
           (o .pre .2) (back-is n 960 (small o) (f .last .0) (f .kept .0)) (f .ensures .1) (back-size n 960 (small o) (f .last .0) (f .kept .0))
-          (sym (lent-count (2 * n) 1920 (twice o))) (i .ensures .1) (back-is (2 * n) 1920 (twice o) (i .last .1 .0) (i .kept .1 .0)) (c .before .before .window-outputs .ensures),
+          (sym (lent-count (2 * n) 1920 (twice o))) (i .ensures)
+          (back-is (2 * n) 1920 (twice o) (i .last .1 .0) (i .kept .1 .0)) (c .before .before .window-outputs .ensures),
     )
 
 pub fill-block-spec : {M : Type 1} → statement M

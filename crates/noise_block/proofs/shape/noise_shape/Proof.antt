@@ -19,7 +19,8 @@ abbrev μ-loop : tie.MeasureT-loop
     21 - i
 
 -- the band lies within the bins
-ends : (c : tie.After-band-edge2 Inv-loop μ-loop) → (c .before .before .before .before .before .args .m * c .before .band-edge .result ≤ c .before .before .before .before .before .args .m * c .band-edge2 .result)
+ends : (c : tie.After-band-edge2 Inv-loop μ-loop)
+    → (c .before .before .before .before .before .args .m * c .before .band-edge .result ≤ c .before .before .before .before .before .args .m * c .band-edge2 .result)
     × (c .before .before .before .before .before .args .m * c .band-edge2 .result ≤ c .before .before .before .before .before .args .m * 100)
 ends c =
     let n = c .before .before in

@@ -1,5 +1,5 @@
 use mathlib.Core.Path.{_≡_, ap, ap₂, _∙_, sym}
-use Prim.Native.Nat.{_+_, _≤_, _-_, _*_}
+use Prim.Native.Nat.{ℕ, _+_, _≤_, _-_, _*_}
 use native.Mathlib.Omega.{arith}
 use lib.ListN.{length, getD}
 use borrow.Author.Needs.{needs}
@@ -22,7 +22,11 @@ abbrev μ-loop : tie.MeasureT-loop
     end - i
 
 -- the band lies within the bins
-ends : (c : tie.After-band-edge2 Inv-loop μ-loop) → (c .before .before .before .before .before .before .before .before .before .args .m * c .before .band-edge .result ≤ c .before .before .before .before .before .before .before .before .before .args .m * c .band-edge2 .result) × (c .before .before .before .before .before .before .before .before .before .args .m * c .band-edge2 .result ≤ c .before .before .before .before .before .before .before .before .before .args .m * 100)
+abbrev factor : tie.After-band-edge2 Inv-loop μ-loop → ℕ
+factor c = c .before .before .before .before .before .before .before .before .before .args .m
+
+ends : (c : tie.After-band-edge2 Inv-loop μ-loop)
+    → (factor c * c .before .band-edge .result ≤ factor c * c .band-edge2 .result) × (factor c * c .band-edge2 .result ≤ factor c * 100)
 ends c =
     let n = c .before .before .before .before .before in
     let i = n .before .loop .i in

@@ -18,8 +18,10 @@ inside : (c : tie.After-bound-of) → c .bound-of .result ≤ length (c .before 
 inside c =
     let o = c .before .before .before .before .before .before .before .before .before .before .before in
     let l = whole o in
-    let k : length (c .before .before .before .before .before .before .before .noise-shape .last .0) ≡ length (o .args .bins .now) = c .before .before .before .before .before .before .before .noise-shape .kept .0 in
-    let j : length (c .before .before .before .apply-gains .last .0) ≡ length (c .before .before .before .before .before .before .before .noise-shape .last .0) = c .before .before .before .apply-gains .kept .0 in
+    let n = c .before .before .before .before .before .before .before .noise-shape in
+    let g = c .before .before .before .apply-gains in
+    let k : length (n .last .0) ≡ length (o .args .bins .now) = n .kept .0 in
+    let j : length (g .last .0) ≡ length (n .last .0) = g .kept .0 in
     let r : c .bound-of .result ≤ o .args .m * 100 = c .bound-of .ensures .1 in
     omega arith
 

@@ -1,0 +1,60 @@
+use mathlib.Core.Path.{_∙_}
+use Rattle.buffers.specs.Buffers.{copied-all}
+use Rattle.plc_downsample.proofs.Steps.{whiten-done}
+use borrow.Author.Needs.{needs}
+use Rattle.plc_downsample.proofs.whiten.Statement.{statement}
+use Rattle.plc_downsample.proofs.whiten.Tie as tie
+
+slice-aggregate-copy : tie.Need-slice-aggregate-copy
+slice-aggregate-copy c = search needs
+
+copy-requires : tie.Need-copy-requires
+copy-requires c κs = search needs
+
+whitening-requires : tie.Need-whitening-requires
+whitening-requires c κs = search needs
+
+slice-aggregate-celt-fir-inplace : tie.Need-slice-aggregate-celt-fir-inplace
+slice-aggregate-celt-fir-inplace c = search needs
+
+slice-aggregate-celt-fir-inplace-2 : tie.Need-slice-aggregate-celt-fir-inplace-2
+slice-aggregate-celt-fir-inplace-2 c = search needs
+
+celt-fir-inplace-requires : tie.Need-celt-fir-inplace-requires
+celt-fir-inplace-requires c κs = search needs
+
+slice-aggregate-celt-fir-inplace-3 : tie.Need-slice-aggregate-celt-fir-inplace-3
+slice-aggregate-celt-fir-inplace-3 c = search needs
+
+slice-aggregate-celt-fir-inplace-4 : tie.Need-slice-aggregate-celt-fir-inplace-4
+slice-aggregate-celt-fir-inplace-4 c = search needs
+
+celt-fir-inplace-requires-2 : tie.Need-celt-fir-inplace-requires-2
+celt-fir-inplace-requires-2 c κs = search needs
+
+same-length : tie.Need-same-length
+same-length c = search needs
+
+returns : tie.Need-returns
+returns c =
+    let f = c .before .before .before .before .before .before .before .before in
+    let w = f .before .before .before .before in
+    let k = w .before .before .before .copy in
+    whiten-done _ _ _ _ _ _ _ (search needs) (k .ensures ∙ copied-all _ _ (search needs)) (w .whitening .ensures)
+    (f .celt-fir-inplace .ensures) (c .before .before .celt-fir-inplace2 .ensures)
+
+pub whiten-spec : {M : Type 1} → statement M
+whiten-spec =
+    tie.close
+    (tie.spec
+    slice-aggregate-copy
+    copy-requires
+    whitening-requires
+    slice-aggregate-celt-fir-inplace
+    slice-aggregate-celt-fir-inplace-2
+    celt-fir-inplace-requires
+    slice-aggregate-celt-fir-inplace-3
+    slice-aggregate-celt-fir-inplace-4
+    celt-fir-inplace-requires-2
+    same-length
+    returns)

@@ -1,0 +1,2 @@
+-- The downsampling ahead of the lag search.
+pub mod Downsample

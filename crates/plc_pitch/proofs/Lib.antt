@@ -1,5 +1,0 @@
-mod Turn
-mod Rows
-mod Near
-mod Steps
-mod Whiten
