@@ -10,9 +10,8 @@ fn answer_draw() -> bool {
 }
 
 fn renormalise_front(x: &mut [f32], width: usize) {
-    if width <= x.len() {
-        band_quant::renormalise_vector(&mut x[..width], 1.0);
-    }
+    let end = words::at_most(width, x.len());
+    band_quant::renormalise_vector(&mut x[..end], 1.0);
 }
 
 fn answer_band() -> bool {

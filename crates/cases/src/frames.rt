@@ -13,13 +13,8 @@ fn mono(
     downsample: usize,
     pcm: &mut [f32],
 ) -> Deemphasised {
-    if v.len() < n {
-        return Deemphasised {
-            taken: false,
-            memories: memories,
-        };
-    }
-    deemphasis_mono(&v[..n], memories, downsample, pcm)
+    let end = words::at_most(n, v.len());
+    deemphasis_mono(&v[..end], memories, downsample, pcm)
 }
 
 // The first n samples of v and of w.
@@ -31,13 +26,9 @@ fn stereo(
     downsample: usize,
     pcm: &mut [f32],
 ) -> Deemphasised {
-    if v.len() < n || w.len() < n {
-        return Deemphasised {
-            taken: false,
-            memories: memories,
-        };
-    }
-    deemphasis_stereo(&v[..n], &w[..n], memories, downsample, pcm)
+    let first = words::at_most(n, v.len());
+    let second = words::at_most(n, w.len());
+    deemphasis_stereo(&v[..first], &w[..second], memories, downsample, pcm)
 }
 
 // Three words ahead of a case's floats: lm, channels and downsample.

@@ -2,10 +2,16 @@
 // Each module holds the ops of one hundred. The program stops at the end of the input, at a cut case
 // and at an op that it does not know.
 mod bands;
+mod calls;
 mod filters;
 mod floats;
 mod frames;
+mod losses;
 mod modes;
+mod noise;
+mod pitch;
+mod search;
+mod states;
 mod transform;
 mod words;
 
@@ -19,10 +25,14 @@ fn answer() -> bool {
     match number / 100 {
         1 => floats::answer(number),
         2 => filters::answer(number),
+        3 => search::answer(number),
         4 => bands::answer(number),
         5 => modes::answer(number),
         6 => transform::answer(number),
         7 => frames::answer(number),
+        8 => pitch::answer(number),
+        9 => noise::answer(number),
+        10 => losses::answer(number),
         _ => false,
     }
 }

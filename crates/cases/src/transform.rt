@@ -36,18 +36,14 @@ fn answer_cosine() -> bool {
 
 // The first n bins summed to the first m samples.
 fn sum(spectrum: &[f32], n: usize, out: &mut [f32], m: usize) -> bool {
-    if spectrum.len() < n {
-        return false;
-    }
-    if out.len() < m {
-        return false;
-    }
-    imdct::imdct_naive_f32(&spectrum[..n], &mut out[..m])
+    let bins = words::at_most(n, spectrum.len());
+    let samples = words::at_most(m, out.len());
+    imdct::imdct_naive_f32(&spectrum[..bins], &mut out[..samples])
 }
 
 fn answer_sum(n: usize, m: usize) -> bool {
     let mut spectrum = [0.0f32; 960];
-    if !words::read_first(&mut spectrum, n) {
+    if !words::read_part(&mut spectrum, 0, n) {
         return false;
     }
     let mut out = [0.0f32; 1920];

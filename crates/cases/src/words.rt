@@ -2,7 +2,7 @@
 // written after it ends too: of several in a row the last tells of all.
 use float_bits::words::f32_from_word;
 use float_bits::words::f32_to_word;
-ghost use Prim.Native.Nat.{_<_};
+ghost use Prim.Native.Nat.{_<_, _≤_};
 
 // `whole` is false where the input ended first.
 pub(crate) struct Word {
@@ -114,18 +114,22 @@ pub(crate) fn write_floats(x: &[f32]) -> bool {
     true
 }
 
-// The first n of x.
-pub(crate) fn read_first(x: &mut [f32], n: usize) -> bool {
-    if x.len() < n {
-        return false;
-    }
-    read_floats(&mut x[..n])
+// Places in a buffer that a case names are held to the buffer's length; a case within its ranges has none past it.
+pub(crate) fn at_most(n: usize, most: usize) -> usize
+    ensures { λ r. ⌜ r ≤ most ⌝ }
+{
+    if n < most { n } else { most }
+}
+
+// The values of x from one place to another.
+pub(crate) fn read_part(x: &mut [f32], from: usize, to: usize) -> bool {
+    let end = at_most(to, x.len());
+    let begin = at_most(from, end);
+    read_floats(&mut x[begin..end])
 }
 
 // The first n of x.
 pub(crate) fn write_first(x: &[f32], n: usize) -> bool {
-    if x.len() < n {
-        return false;
-    }
-    write_floats(&x[..n])
+    let end = at_most(n, x.len());
+    write_floats(&x[..end])
 }
