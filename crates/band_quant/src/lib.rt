@@ -3,15 +3,22 @@ ghost use mathlib.Core.Path.{_≡_};
 ghost use lib.ListN.{length};
 ghost use Rattle.band_quant.specs.Draw.{draw, draws};
 ghost use Rattle.band_quant.specs.Noise.{noiseBand};
-ghost use Rattle.band_quant.specs.Renormalise.{renormaliseVector};
+ghost use Rattle.band_quant.specs.Renormalise.{energy64, renormaliseVector};
+
+// The linear congruential generator's factor and addend.
+const MULTIPLIER: u32 = 1_664_525;
+
+const ADDEND: u32 = 1_013_904_223;
+// What a band's energy starts from, so that it is above zero.
+const FLOOR: f64 = 1e-15;
 
 // The next seed of the linear congruential generator.
 pub fn celt_lcg_rand(seed: u32) -> u32
     ensures { λ r. ⌜ r ≡ draw seed ⌝ }
 {
     std::num::wrapping_add_u32(
-        float_bits::words::wrapping_mul_u32(seed, 1_664_525),
-        1_013_904_223,
+        float_bits::words::wrapping_mul_u32(seed, MULTIPLIER),
+        ADDEND,
     )
 }
 
@@ -28,18 +35,24 @@ pub fn noise_fill(x: &mut [f32], seed: u32) -> u32
     s
 }
 
-// Scales x to the energy gain * gain. The sum starts at 1e-15, so a band of zeros stays one.
-pub fn renormalise_vector(x: &mut [f32], gain: f32)
-    ensures { λ _. ⌜ now (x .exit) ≡ renormaliseVector (now (x .entry)) gain ⌝ }
+// 1e-15 and the squares of all values, in f64.
+fn energy64(x: &[f32]) -> f64
+    ensures { λ r. ⌜ r ≡ energy64 (now (x .entry)) ⌝ }
 {
     let n = x.len();
-    let mut e = 1e-15f64;
+    let mut e = FLOOR;
     for i in 0..n {
         let v = float_bits::formats::f32_to_f64(x[i]);
         e += v * v;
     }
+    e
+}
+
+// Scales x to the energy gain * gain. The sum starts at 1e-15, so a band of zeros stays one.
+pub fn renormalise_vector(x: &mut [f32], gain: f32)
+    ensures { λ _. ⌜ now (x .exit) ≡ renormaliseVector (now (x .entry)) gain ⌝ }
+{
+    let e = energy64(x);
     let g = gain / float_bits::root::sqrt_f32(float_bits::formats::f64_to_f32(e));
-    for i in 0..n {
-        x[i] = x[i] * g;
-    }
+    buffers::scale(x, g);
 }

@@ -13,10 +13,10 @@ use history::HALF;
 mod guard;
 
 // How many coefficients a predictor has.
-const ORDER: usize = 24;
+pub const ORDER: usize = 24;
 
 // The longest frame and twice the overlap.
-const LONGEST: usize = 1200;
+pub const LONGEST: usize = 1200;
 
 pub struct Extrapolated {
     pub taken: bool,

@@ -12,17 +12,18 @@ use borrow.Author.Tests.{ltb-true, eqb-false}
 use Rattle.loops.specs.Fold.{foldTo}
 use Rattle.loops.specs.Front.{tab, tab-same, getD-tab, length-tab}
 use Rattle.loops.specs.Sum.{sumTo}
+use Rattle.buffers.specs.Buffers.{zero32}
 use Rattle.plc.specs.Const.{floor32}
-use Rattle.plc.specs.Past.{past}
 use Rattle.plc.specs.Autocorr.{lagTerm, lagTo, lagSum, celtAutocorr}
+use Rattle.plc.specs.LagWindow.{lagFactor, lagWindowed, lagValue, lagWindow}
 use Rattle.plc.specs.Lpc.{lpcTo, celtLpc, length-celtLpc}
-use Rattle.plc.specs.Fir.{firAt, celtFir, length-celtFir}
-use Rattle.plc_pitch.specs.Best.{zero32}
-use Rattle.plc_pitch.specs.BestLaws.{fold-holds}
-use Rattle.plc_pitch.specs.LagWindow.{lagFactor, windowed, lagged, lagWindow}
-use Rattle.plc_pitch.specs.Search.{pitchSearch}
-use Rattle.plc_pitch.specs.FlatLaws.{Zero, zero-mul, zero-add, add-nan, silent, all-nan}
-use Rattle.plc_pitch.specs.Downsample.{half32, tilt, smoothedAt, smoothed, smoothedPair, dampingTo, damped, whitener, whitened, pitchDownsample, pitchDownsamplePair}
+use Rattle.plc_filter.specs.Past.{past}
+use Rattle.plc_filter.specs.Fir.{firAt, celtFir, length-celtFir}
+use Rattle.plc_downsample.specs.Downsample.{half32, tilt, smoothedAt, smoothed, smoothedPair, dampingTo, damped}
+use Rattle.plc_downsample.specs.Downsample.{whitener, whitenLp, pitchDownsample, pitchDownsamplePair}
+use Rattle.plc_search.specs.Offset.{fold-holds}
+use Rattle.plc_search.specs.Search.{pitchSearch}
+use Rattle.lag_laws.specs.NoPitch.{SignedZero, zero-mul, zero-add, add-nan, silent, all-nan}
 
 -- every one of the first n
 abbrev pub Each : (Float → Type 0) → ℕ → List Float → Type 0
@@ -36,7 +37,7 @@ add-zeros true false = refl
 add-zeros false true = refl
 add-zeros false false = refl
 
-sum-zero : (a b : Float) → Zero a → Zero b → Zero (add binary32 a b)
+sum-zero : (a b : Float) → SignedZero a → SignedZero b → SignedZero (add binary32 a b)
 sum-zero a b p q =
     record {
       sign = p .sign && q .sign;
@@ -45,9 +46,9 @@ sum-zero a b p q =
 
 -- what a factor makes of a zero
 abbrev Fades : Float → Type 0
-Fades c = (v : Float) → Zero v → Zero (mul binary32 c v)
+Fades c = (v : Float) → SignedZero v → SignedZero (mul binary32 c v)
 
-zero-fades : (c : Float) → Zero c → Fades c
+zero-fades : (c : Float) → SignedZero c → Fades c
 zero-fades c p v q =
     record {
       sign = unlike (p .sign) (q .sign);
@@ -70,17 +71,17 @@ tilt-zero false = refl
 tilt-fades : Fades tilt
 tilt-fades v q = record { sign = q .sign; is = ap (mul binary32 tilt) (q .is) ∙ tilt-zero (q .sign) }
 
-zero32-zero : Zero zero32
+zero32-zero : SignedZero zero32
 unfolding ofBits
 zero32-zero = record { sign = false; is = refl }
 
 -- ---- smoothing
-smoothed-zero : (x : List Float) → Each Zero 2048 x → (i : ℕ) → i < 1024 → Zero (smoothedAt x i)
+smoothed-zero : (x : List Float) → Each SignedZero 2048 x → (i : ℕ) → i < 1024 → SignedZero (smoothedAt x i)
 unfolding smoothedAt
 smoothed-zero x a i h = go (eqb i 0) (eqb-false i 0)
   where
     go : (b : Bool) → (b ≡ false → i ≡ 0 → ⊥)
-        → Zero
+        → SignedZero
         (cond b (mul binary32 half32 (add binary32 (mul binary32 half32 (getD x 1 nan)) (getD x 0 nan)))
         (mul binary32 half32
         (add binary32 (mul binary32 half32 (add binary32 (getD x (2 * i - 1) nan) (getD x (2 * i + 1) nan))) (getD x (2 * i) nan))))
@@ -90,19 +91,19 @@ smoothed-zero x a i h = go (eqb i 0) (eqb-false i 0)
         (sum-zero _ _ (half-fades _ (sum-zero _ _ (a (2 * i - 1) (omega arith)) (a (2 * i + 1) (omega arith)))) (a (2 * i) (omega arith)))
 
 -- ---- the whitener of zeros
-lag-zero : (x : List Float) (lag : ℕ) → Each Zero (length x) x → lagSum x lag ≡ zero32
+lag-zero : (x : List Float) (lag : ℕ) → Each SignedZero (length x) x → lagSum x lag ≡ zero32
 unfolding lagTo sumTo
 lag-zero x lag a =
     fold-holds (λ s. s ≡ zero32) _ zero32 (length x - lag) refl
     (λ s k h e.
-    let t : Zero (lagTerm x lag k) = zero-fades _ (a (lag + k) (omega arith)) _ (a k (omega arith)) in
+    let t : SignedZero (lagTerm x lag k) = zero-fades _ (a (lag + k) (omega arith)) _ (a k (omega arith)) in
     ap (λ z. add binary32 z (lagTerm x lag k)) e ∙ ap (add binary32 zero32) (t .is) ∙ zero-add (t .sign))
 
 -- the correlations of silence: the noise floor alone
 abbrev floorOnly : List Float
 floorOnly = set (tab (λ (i : ℕ). zero32) 5) 0 (add binary32 zero32 floor32)
 
-autocorr-zero : (x : List Float) → Each Zero (length x) x → celtAutocorr x 5 ≡ floorOnly
+autocorr-zero : (x : List Float) → Each SignedZero (length x) x → celtAutocorr x 5 ≡ floorOnly
 unfolding celtAutocorr
 autocorr-zero x a =
     ap (λ z. set z 0 (add binary32 (lagSum x 0) floor32)) (tab-same (lagSum x) (λ (i : ℕ). zero32) 5 (λ i h. lag-zero x i a))
@@ -116,7 +117,7 @@ isZero (fin s zero (pos (suc k))) = false
 isZero (fin s zero (negsuc k)) = false
 isZero (fin s (suc m) e) = false
 
-is-zero : (v : Float) → isZero v ≡ true → Zero v
+is-zero : (v : Float) → isZero v ≡ true → SignedZero v
 unfolding isZero
 is-zero nan e = absurd (true≢false (sym e))
 is-zero (inf s) e = absurd (true≢false (sym e))
@@ -130,14 +131,14 @@ abbrev floorWhitener : List Float
 floorWhitener = damped (celtLpc (lagWindow floorOnly) 4)
 
 floor-zero : (j : ℕ) → j < 4 → isZero (getD floorWhitener j nan) ≡ true
-unfolding isZero damped dampingTo celtLpc lpcTo lagWindow lagged windowed lagFactor tab foldTo sumTo add sub mul div lt eq neg ofBits ofInt
+unfolding isZero damped dampingTo celtLpc lpcTo lagWindow lagValue lagWindowed lagFactor tab foldTo sumTo add sub mul div lt eq neg ofBits ofInt
 floor-zero zero h = refl
 floor-zero (suc zero) h = refl
 floor-zero (suc (suc zero)) h = refl
 floor-zero (suc (suc (suc zero))) h = refl
 floor-zero (suc (suc (suc (suc j)))) h = let z : ⊥ = omega arith in absurd z
 
-whitener-fades : (x : List Float) → Each Zero (length x) x → Each Fades 4 (whitener x)
+whitener-fades : (x : List Float) → Each SignedZero (length x) x → Each Fades 4 (whitener x)
 unfolding whitener
 whitener-fades x a j h =
     rw (autocorr-zero x a) (zero-fades (getD floorWhitener j nan) (is-zero (getD floorWhitener j nan) (floor-zero j h)))
@@ -148,18 +149,18 @@ length-whitener x = length-tab _ _ ∙ length-celtLpc (lagWindow (celtAutocorr x
 
 -- ---- filters
 module _ (num mem x : List Float) where
-  past-zero : Each Zero (length num) mem → Each Zero (length x) x → (i j : ℕ) → i < length x → j < length num → Zero (past x mem i j)
+  past-zero : Each SignedZero (length num) mem → Each SignedZero (length x) x → (i j : ℕ) → i < length x → j < length num → SignedZero (past x mem i j)
   past-zero m a i j h k = go (ltb j i) (ltb-true j i)
     where
-      go : (b : Bool) → (b ≡ true → j < i) → Zero (cond b (getD x (i - 1 - j) nan) (getD mem (j - i) nan))
+      go : (b : Bool) → (b ≡ true → j < i) → SignedZero (cond b (getD x (i - 1 - j) nan) (getD mem (j - i) nan))
       go true t = let l : j < i = t refl in a (i - 1 - j) (omega arith)
       go false t = m (j - i) (omega arith)
 
-  fir-zero : Each Fades (length num) num → Each Zero (length num) mem → Each Zero (length x) x → Each Zero (length x) (celtFir num mem x)
+  fir-zero : Each Fades (length num) num → Each SignedZero (length num) mem → Each SignedZero (length x) x → Each SignedZero (length x) (celtFir num mem x)
   unfolding celtFir firAt sumTo
   fir-zero n m a i h =
       rw (getD-tab (firAt num mem x) (length x) i nan h)
-      (fold-holds Zero (λ (s : Float) (j : ℕ). add binary32 s (mul binary32 (getD num j nan) (past x mem i j))) (getD x i nan) (length num) (a i h)
+      (fold-holds SignedZero (λ (s : Float) (j : ℕ). add binary32 s (mul binary32 (getD num j nan) (past x mem i j))) (getD x i nan) (length num) (a i h)
       (λ s j k z. sum-zero s (mul binary32 (getD num j nan) (past x mem i j)) z (n j k (past x mem i j) (past-zero m a i j h k))))
 
   nan-add : (y : Float) → add binary32 nan y ≡ nan
@@ -173,7 +174,7 @@ module _ (num mem x : List Float) where
       ∙ fold-holds (λ s. s ≡ nan) (λ (s : Float) (j : ℕ). add binary32 s (mul binary32 (getD num j nan) (past x mem i j))) (getD x i nan) (length num) (a i h)
       (λ s j k e. ap (λ z. add binary32 z (mul binary32 (getD num j nan) (past x mem i j))) e ∙ nan-add (mul binary32 (getD num j nan) (past x mem i j)))
 
-zeros : Each Zero 4 (replicate 4 zero32)
+zeros : Each SignedZero 4 (replicate 4 zero32)
 zeros zero h = zero32-zero
 zeros (suc zero) h = zero32-zero
 zeros (suc (suc zero)) h = zero32-zero
@@ -184,7 +185,7 @@ tilts : Each Fades 1 (tilt ∷ [])
 tilts zero h = tilt-fades
 tilts (suc j) h = let z : ⊥ = omega arith in absurd z
 
-one-zero : Each Zero 1 (zero32 ∷ [])
+one-zero : Each SignedZero 1 (zero32 ∷ [])
 one-zero zero h = zero32-zero
 one-zero (suc j) h = let z : ⊥ = omega arith in absurd z
 
@@ -195,17 +196,17 @@ filtered lp = celtFir (whitener lp) (replicate 4 zero32) lp
 length-filtered : (lp : List Float) → length (filtered lp) ≡ length lp
 length-filtered lp = length-celtFir (whitener lp) (replicate 4 zero32) lp
 
-whitened-zero : (lp : List Float) → Each Zero (length lp) lp → Each Zero (length lp) (whitened lp)
-unfolding whitened
-whitened-zero lp a i h =
-    let w : Each Zero (length lp) (filtered lp) =
+whitenLp-zero : (lp : List Float) → Each SignedZero (length lp) lp → Each SignedZero (length lp) (whitenLp lp)
+unfolding whitenLp
+whitenLp-zero lp a i h =
+    let w : Each SignedZero (length lp) (filtered lp) =
     fir-zero (whitener lp) (replicate 4 zero32) lp (λ j k. whitener-fades lp a j (omega (arith, length-whitener lp)))
     (λ j k. zeros j (omega (arith, length-whitener lp))) a in
     fir-zero (tilt ∷ []) (zero32 ∷ []) (filtered lp) tilts one-zero (λ j k. w j (omega (arith, length-filtered lp))) i (omega (arith, length-filtered lp))
 
-whitened-nan : (lp : List Float) → Each (λ v. v ≡ nan) (length lp) lp → Each (λ v. v ≡ nan) (length lp) (whitened lp)
-unfolding whitened
-whitened-nan lp a i h =
+whitenLp-nan : (lp : List Float) → Each (λ v. v ≡ nan) (length lp) lp → Each (λ v. v ≡ nan) (length lp) (whitenLp lp)
+unfolding whitenLp
+whitenLp-nan lp a i h =
     fir-nan (tilt ∷ []) (zero32 ∷ []) (filtered lp)
     (λ j k. fir-nan (whitener lp) (replicate 4 zero32) lp a j (omega (arith, length-filtered lp))) i (omega (arith, length-filtered lp))
 
@@ -215,20 +216,20 @@ at-720 y e = ap (λ z. 720 - z) e
 
 -- where the smoothed samples are zeros, or all NaN
 module _ (f : ℕ → Float) where
-  tab-zero : ((i : ℕ) → i < 1024 → Zero (f i)) → 720 - pitchSearch (whitened (tab f 1024)) ≡ 720
+  tab-zero : ((i : ℕ) → i < 1024 → SignedZero (f i)) → 720 - pitchSearch (whitenLp (tab f 1024)) ≡ 720
   tab-zero a =
-      at-720 (whitened (tab f 1024))
-      (silent (whitened (tab f 1024))
+      at-720 (whitenLp (tab f 1024))
+      (silent (whitenLp (tab f 1024))
       (λ i h.
-      whitened-zero (tab f 1024) (λ j k. let l : j < 1024 = omega (arith, length-tab f 1024) in rw (getD-tab f 1024 j nan l) (a j l)) i
+      whitenLp-zero (tab f 1024) (λ j k. let l : j < 1024 = omega (arith, length-tab f 1024) in rw (getD-tab f 1024 j nan l) (a j l)) i
       (omega (arith, length-tab f 1024))))
 
-  tab-nan : ((i : ℕ) → i < 1024 → f i ≡ nan) → 720 - pitchSearch (whitened (tab f 1024)) ≡ 720
+  tab-nan : ((i : ℕ) → i < 1024 → f i ≡ nan) → 720 - pitchSearch (whitenLp (tab f 1024)) ≡ 720
   tab-nan a =
-      at-720 (whitened (tab f 1024))
-      (all-nan (whitened (tab f 1024))
+      at-720 (whitenLp (tab f 1024))
+      (all-nan (whitenLp (tab f 1024))
       (λ i h.
-      whitened-nan (tab f 1024) (λ j k. let l : j < 1024 = omega (arith, length-tab f 1024) in getD-tab f 1024 j nan l ∙ a j l) i
+      whitenLp-nan (tab f 1024) (λ j k. let l : j < 1024 = omega (arith, length-tab f 1024) in getD-tab f 1024 j nan l ∙ a j l) i
       (omega (arith, length-tab f 1024))))
 
 half-nan : mul binary32 half32 nan ≡ nan
@@ -252,7 +253,7 @@ smoothed-nan x a i h = go (eqb i 0)
         ap (λ z. mul binary32 half32 (add binary32 t z)) (a (2 * i) (omega arith)) ∙ ap (mul binary32 half32) (add-nan t) ∙ half-nan
 
 -- one channel
-pub silent-history : (x : List Float) → Each Zero 2048 x → 720 - pitchSearch (pitchDownsample x) ≡ 720
+pub silent-history : (x : List Float) → Each SignedZero 2048 x → 720 - pitchSearch (pitchDownsample x) ≡ 720
 unfolding pitchDownsample smoothed
 silent-history x a = tab-zero (smoothedAt x) (smoothed-zero x a)
 
@@ -261,7 +262,7 @@ unfolding pitchDownsample smoothed
 nan-history x a = tab-nan (smoothedAt x) (smoothed-nan x a)
 
 -- two channels; one that is all NaN is enough
-pub silent-pair : (x y : List Float) → Each Zero 2048 x → Each Zero 2048 y → 720 - pitchSearch (pitchDownsamplePair x y) ≡ 720
+pub silent-pair : (x y : List Float) → Each SignedZero 2048 x → Each SignedZero 2048 y → 720 - pitchSearch (pitchDownsamplePair x y) ≡ 720
 unfolding pitchDownsamplePair smoothedPair
 silent-pair x y a b =
     tab-zero (λ (i : ℕ). add binary32 (smoothedAt x i) (smoothedAt y i))

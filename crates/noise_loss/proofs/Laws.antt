@@ -1,16 +1,18 @@
 -- What the loops of energies and blocks rest on.
 use mathlib.Core.Path.{_≡_, ap, ap₂, _∙_, sym}
-use mathlib.Core.List.{List, _++_}
+use mathlib.Core.List.{List, [], _++_, append-nil}
 use mathlib.Core.Bool.{cond}
 use Prim.Native.Nat.{ℕ, _+_, _-_, _≤_, _<_}
 use native.Mathlib.Omega.{arith}
-use lib.ListN.{length, getD, set, drop}
-use lib.Seq.{getD-append-add, getD-drop}
+use lib.ListN.{length, getD, set, take, drop, length-drop, drop-of-length-le}
+use lib.Seq.{getD-append-add, getD-drop, take-all, take-at}
 use lib.Dec.{leb}
 use lib.Ieee.{Float, nan, binary32, sub, add}
 use borrow.Author.Tests.{lt-leb}
 use Rattle.loops.specs.Front.{front, tab, length-tab, tab-read, tab-more, tab-all}
 use Rattle.loops.specs.Pick.{pick-false}
+use Rattle.buffers.specs.Buffers.{copied, copied-all}
+use Rattle.noise_loss.specs.Cover.{overlapped}
 use Rattle.noise_loss.specs.Energies.{decay, drops, droppedAt, lowerEnergies}
 
 -- ---- energies
@@ -52,3 +54,19 @@ sum-at n j block tail₀ tail e =
     ap (add binary32 (getD block j nan))
     (front-later nan tail₀ tail (tab (sumAt block (drop n tail₀)) j) j (n + j) e (length-tab (sumAt block (drop n tail₀)) j) (omega arith)
     ∙ sym (getD-drop n tail₀ j nan))
+
+-- the overlap-add, and then the rest of the block copied: y came back for the part from 120 on
+pub lay-is : (block over first t y : List Float) → t ≡ front (tab (sumAt block over) 120) first 120 → length t ≡ length block → 120 ≤ length block
+    → y ≡ copied (take (length block - 120) (drop 120 block)) (take (length t - 120) (drop 120 t))
+    → take 120 t ++ (y ++ drop (length t - 120) (drop 120 t)) ≡ overlapped block over ++ drop 120 block
+unfolding front overlapped
+lay-is block over first t y e l h ey =
+    let b = length-drop 120 block in
+    let a = length-drop 120 t in
+    let p : take (length block - 120) (drop 120 block) ≡ drop 120 block = take-all (length block - 120) (drop 120 block) (omega arith) in
+    let q : take (length t - 120) (drop 120 t) ≡ drop 120 t = take-all (length t - 120) (drop 120 t) (omega arith) in
+    let r : drop (length t - 120) (drop 120 t) ≡ [] = drop-of-length-le (drop 120 t) {i = length t - 120} (omega arith) in
+    let v : y ≡ drop 120 block = ey ∙ ap₂ copied p q ∙ copied-all (drop 120 block) (drop 120 t) (omega arith) in
+    let s : take 120 t ≡ tab (sumAt block over) 120 =
+    ap (take 120) e ∙ take-at (tab (sumAt block over) 120) (drop 120 first) 120 (length-tab (sumAt block over) 120) in
+    ap₂ (λ x z. x ++ z) s (ap₂ (λ x z. x ++ z) v r ∙ append-nil (drop 120 block))

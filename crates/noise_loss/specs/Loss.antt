@@ -45,8 +45,8 @@ pub record Noised : Type 0 where
 abbrev pub noised : List Float → ℕ → Noised
 noised history seed = record { history = history; seed = seed }
 
-unfoldable pub noiseLoss : Settings → ℕ → List Float → List Float → Noised
-noiseLoss k seed energies h =
+unfoldable pub afterNoise : Settings → ℕ → List Float → List Float → Noised
+afterNoise k seed energies h =
     let b = noiseBlocks k seed energies in
     noised (withTails h (noiseTails (stereo k) (frame k) b (tails h))) (noiseSeed (stereo k) b)
 

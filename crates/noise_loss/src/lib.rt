@@ -8,7 +8,7 @@ ghost use Rattle.custom_mode.specs.Mode.{maxBands};
 ghost use Rattle.history.specs.History.{half, overlap, channel, whole, tailAt, tails, withTails, tailList};
 ghost use Rattle.state.specs.Settings.{frame, stereo, checkSettings};
 ghost use Rattle.noise_loss.specs.Cover.{coveredTail};
-ghost use Rattle.noise_loss.specs.Loss.{channelBlock, noiseBlocks, noiseSeed, noiseTails, noised, noiseLoss, noiseTakes};
+ghost use Rattle.noise_loss.specs.Loss.{channelBlock, noiseBlocks, noiseSeed, noiseTails, noised, afterNoise, noiseTakes};
 use noise_block::Drawn;
 use noise_block::noise_block;
 use state::Settings;
@@ -45,7 +45,7 @@ fn noise_channel(history: &mut [f32], at: usize, k: Settings, seed: u32, energie
 // Each used channel, from both channels' energies. The second goes on from the first one's seed.
 fn noise_channels(history: &mut [f32], k: Settings, seed: u32, energies: [f32; 50]) -> u32
     requires { ⌜ (checkSettings k ≡ 0) × (length (now history) ≡ whole) ⌝ }
-    ensures { λ r. ⌜ noised (now (history .exit)) r ≡ noiseLoss k seed energies (now (history .entry)) ⌝ }
+    ensures { λ r. ⌜ noised (now (history .exit)) r ≡ afterNoise k seed energies (now (history .entry)) ⌝ }
 {
     let one = noise_channel(history, 0, k, seed, &energies[0..25]);
     if k.channels == 2 {
@@ -57,7 +57,7 @@ fn noise_channels(history: &mut [f32], k: Settings, seed: u32, energies: [f32; 5
 // A noise loss of a whole history, from the energies of both channels.
 pub fn noise_loss(k: Settings, history: &mut [f32], seed: u32, energies: [f32; 50]) -> Drawn
     ensures { λ r. ⌜ reply (r .taken) (noised (now (history .exit)) (r .seed))
-        ≡ replyIf (noiseTakes k (length (now (history .entry)))) (noiseLoss k seed energies (now (history .entry))) (noised (now (history .entry)) seed) ⌝ }
+        ≡ replyIf (noiseTakes k (length (now (history .entry)))) (afterNoise k seed energies (now (history .entry))) (noised (now (history .entry)) seed) ⌝ }
 {
     let n = history.len();
     if settings_pass(k) {

@@ -1,4 +1,1 @@
-mod Laws
-mod Pairs
-mod Read
-mod Whole
+pub mod Tails

@@ -1,5 +1,5 @@
 use borrow.Author.Needs.{needs}
-use Rattle.band_quant.proofs.Turn.{drawn}
+use Rattle.band_quant.proofs.Turn.{draw-done}
 use Rattle.band_quant.proofs.celt_lcg_rand.Statement.{statement}
 use Rattle.band_quant.proofs.celt_lcg_rand.Tie as tie
 
@@ -10,7 +10,7 @@ wrapping-add-u32-requires : tie.Need-wrapping-add-u32-requires
 wrapping-add-u32-requires c κs = search needs
 
 returns : tie.Need-returns
-returns c = drawn _ _ _ (c .before .wrapping-mul-u32 .ensures) (c .wrapping-add-u32 .ensures)
+returns c = draw-done _ _ _ (c .before .wrapping-mul-u32 .ensures) (c .wrapping-add-u32 .ensures)
 
 pub celt-lcg-rand-spec : {M : Type 1} → statement M
 celt-lcg-rand-spec =

@@ -1,0 +1,1 @@
+// No code: laws on the lag that the search finds, which no function needs: see specs/.

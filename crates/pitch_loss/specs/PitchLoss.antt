@@ -1,0 +1,53 @@
+-- A pitch loss, from the tails alone: the frame, the overlap, and each used channel's tail after them.
+use Prim.Native.Nat.{ℕ, _+_}
+use mathlib.Core.Bool.{Bool, cond, _&&_}
+use mathlib.Core.List.{List}
+use lib.ListN.{take, drop}
+use lib.Seq.{slice}
+use lib.Dec.{eqb, leb}
+use lib.Ieee.{Float}
+use Rattle.history.specs.History.{overlap, whole, Tail, Tails}
+use Rattle.mdct.specs.Window.{window}
+use Rattle.post_filter.specs.declared.Filter.{Filter}
+use Rattle.post_filter.specs.Limits.{filterFits}
+use Rattle.post_filter.specs.Comb.{preFiltered}
+use Rattle.state.specs.declared.Settings.{Settings}
+use Rattle.state.specs.Settings.{checkSettings}
+use Rattle.state.specs.Refusal.{lagLeast, lagMost}
+use Rattle.extrapolate.specs.Extrapolate.{order, extrapolated}
+use Rattle.fold.specs.Roll.{rolled}
+use Rattle.fold.specs.Fold.{folded}
+
+abbrev pub longestFrame : ℕ
+longestFrame = 960
+
+-- what is extrapolated beyond a frame: twice the overlap
+abbrev pub extra : ℕ
+extra = 240
+
+-- a tail after the first n samples of e came in: the next 120 are folded into the overlap, and that is pre-filtered
+unfoldable pub tailAfter : ℕ → List Float → Filter → Tail → Tail
+tailAfter n e f t =
+    let new = rolled (take n e) (t .new) in
+    record { new = new; over = preFiltered f new (folded window (slice n (n + overlap) e)) }
+
+-- the pitch step of one channel: a frame of n, the tail, the lag, whether it is the first loss, 24 coefficients, the filter
+unfoldable pub pitchTail : ℕ → Tail → ℕ → Bool → List Float → Filter → Tail
+pitchTail n t lag first c f = tailAfter n (extrapolated (n + extra) (t .new) lag first c) f t
+
+-- channel 0 alone
+unfoldable pub firstTail : ℕ → ℕ → Bool → List Float → Filter → Tails → Tails
+firstTail n lag first c f t = record { first = pitchTail n (t .first) lag first c f; second = t .second }
+
+-- each channel by its own coefficients
+unfoldable pub bothTails : ℕ → ℕ → Bool → List Float → List Float → Filter → Tails → Tails
+bothTails n lag first c d f t = record { first = pitchTail n (t .first) lag first c f; second = pitchTail n (t .second) lag first d f }
+
+-- each used channel, of two or one, by its 24 of 48 coefficients
+unfoldable pub pitchTails : Bool → ℕ → ℕ → Bool → List Float → Filter → Tails → Tails
+pitchTails two n lag first c f t =
+    record { first = pitchTail n (t .first) lag first (take order c) f; second = cond two (pitchTail n (t .second) lag first (drop order c) f) (t .second) }
+
+-- which settings, history, lag and filter are taken
+unfoldable pub pitchTakes : Settings → ℕ → ℕ → Filter → Bool
+pitchTakes k size lag f = eqb (checkSettings k) 0 && (eqb size whole && (leb lagLeast lag && (leb lag lagMost && filterFits f)))
