@@ -45,7 +45,8 @@ fn digest(x: &[f32], p: usize) -> u32 {
 }
 
 // One call of a run, and its answer written.
-fn turn(s: State, history: &mut [f32], pcm: &mut [f32], p: usize) -> State {
+fn turn(s: State, history: &mut [f32], pcm: &mut [f32], length: u32) -> State {
+    let p = length as usize;
     let a = call(s, history, pcm, p);
     let number = a.number;
     write_report(number, a.kind, a.samples);
@@ -64,7 +65,7 @@ pub(crate) fn run(
     let m = words::at_most(n, lengths.len());
     let mut t = s;
     for i in 0..m {
-        t = turn(t, history, pcm, lengths[i] as usize);
+        t = turn(t, history, pcm, lengths[i]);
     }
     t
 }

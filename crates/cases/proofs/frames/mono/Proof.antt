@@ -4,8 +4,8 @@ use borrow.Author.Needs.{needs}
 use Rattle.cases.proofs.frames.mono.Statement.{statement}
 use Rattle.cases.proofs.frames.mono.Tie as tie
 
-returns : tie.Need-returns
-returns c = search needs
+at-most-requires : tie.Need-at-most-requires
+at-most-requires c κs = search needs
 
 slice-aggregate-deemphasis-mono : tie.Need-slice-aggregate-deemphasis-mono
 slice-aggregate-deemphasis-mono c = sym (length-take-le _ _ (search needs))
@@ -16,15 +16,15 @@ deemphasis-mono-requires c κs = search needs
 same-length : tie.Need-same-length
 same-length c = search needs
 
-returns-2 : tie.Need-returns-2
-returns-2 c = search needs
+returns : tie.Need-returns
+returns c = search needs
 
 pub mono-spec : {M : Type 1} → statement M
 mono-spec =
     tie.close
     (tie.spec
-    returns
+    at-most-requires
     slice-aggregate-deemphasis-mono
     deemphasis-mono-requires
     same-length
-    returns-2)
+    returns)

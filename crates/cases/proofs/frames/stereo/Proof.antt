@@ -4,8 +4,11 @@ use borrow.Author.Needs.{needs}
 use Rattle.cases.proofs.frames.stereo.Statement.{statement}
 use Rattle.cases.proofs.frames.stereo.Tie as tie
 
-returns : tie.Need-returns
-returns c = search needs
+at-most-requires : tie.Need-at-most-requires
+at-most-requires c κs = search needs
+
+at-most-requires-2 : tie.Need-at-most-requires-2
+at-most-requires-2 c κs = search needs
 
 slice-aggregate-deemphasis-stereo : tie.Need-slice-aggregate-deemphasis-stereo
 slice-aggregate-deemphasis-stereo c = sym (length-take-le _ _ (search needs))
@@ -19,16 +22,17 @@ deemphasis-stereo-requires c κs = search needs
 same-length : tie.Need-same-length
 same-length c = search needs
 
-returns-2 : tie.Need-returns-2
-returns-2 c = search needs
+returns : tie.Need-returns
+returns c = search needs
 
 pub stereo-spec : {M : Type 1} → statement M
 stereo-spec =
     tie.close
     (tie.spec
-    returns
+    at-most-requires
+    at-most-requires-2
     slice-aggregate-deemphasis-stereo
     slice-aggregate-deemphasis-stereo-2
     deemphasis-stereo-requires
     same-length
-    returns-2)
+    returns)

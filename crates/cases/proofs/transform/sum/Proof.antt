@@ -4,11 +4,11 @@ use borrow.Author.Needs.{needs}
 use Rattle.cases.proofs.transform.sum.Statement.{statement}
 use Rattle.cases.proofs.transform.sum.Tie as tie
 
-returns : tie.Need-returns
-returns c = search needs
+at-most-requires : tie.Need-at-most-requires
+at-most-requires c κs = search needs
 
-returns-2 : tie.Need-returns-2
-returns-2 c = search needs
+at-most-requires-2 : tie.Need-at-most-requires-2
+at-most-requires-2 c κs = search needs
 
 slice-aggregate-imdct-naive-f32 : tie.Need-slice-aggregate-imdct-naive-f32
 slice-aggregate-imdct-naive-f32 c = sym (length-take-le _ _ (search needs))
@@ -25,18 +25,18 @@ imdct-naive-f32-requires c κs = search needs
 same-length : tie.Need-same-length
 same-length c = search needs
 
-returns-3 : tie.Need-returns-3
-returns-3 c = search needs
+returns : tie.Need-returns
+returns c = search needs
 
 pub sum-spec : {M : Type 1} → statement M
 sum-spec =
     tie.close
     (tie.spec
-    returns
-    returns-2
+    at-most-requires
+    at-most-requires-2
     slice-aggregate-imdct-naive-f32
     slice-relend-prefix-imdct-naive-f32
     slice-aggregate-imdct-naive-f32-2
     imdct-naive-f32-requires
     same-length
-    returns-3)
+    returns)

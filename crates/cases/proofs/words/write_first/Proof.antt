@@ -4,8 +4,8 @@ use borrow.Author.Needs.{needs}
 use Rattle.cases.proofs.words.write_first.Statement.{statement}
 use Rattle.cases.proofs.words.write_first.Tie as tie
 
-returns : tie.Need-returns
-returns c = search needs
+at-most-requires : tie.Need-at-most-requires
+at-most-requires c κs = search needs
 
 slice-aggregate-write-floats : tie.Need-slice-aggregate-write-floats
 slice-aggregate-write-floats c = sym (length-take-le _ _ (search needs))
@@ -13,9 +13,10 @@ slice-aggregate-write-floats c = sym (length-take-le _ _ (search needs))
 write-floats-requires : tie.Need-write-floats-requires
 write-floats-requires c κs = search needs
 
-returns-2 : tie.Need-returns-2
-returns-2 c = search needs
+returns : tie.Need-returns
+returns c = search needs
 
 pub write-first-spec : {M : Type 1} → statement M
 write-first-spec =
-    tie.close (tie.spec returns slice-aggregate-write-floats write-floats-requires returns-2)
+    tie.close
+    (tie.spec at-most-requires slice-aggregate-write-floats write-floats-requires returns)
