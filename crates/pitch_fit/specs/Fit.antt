@@ -1,0 +1,33 @@
+-- The predictors that a first pitch loss fits.
+use mathlib.Core.Path.{_≡_}
+use Prim.Native.Nat.{ℕ}
+use mathlib.Core.Bool.{Bool, cond, _&&_}
+use mathlib.Core.List.{List, _++_}
+use lib.ListN.{length, drop}
+use lib.Dec.{eqb}
+use lib.Ieee.{Float}
+use Rattle.history.specs.History.{half, Tails}
+use Rattle.mdct.specs.Window.{window}
+use Rattle.plc.specs.Autocorr.{celtAutocorr, windowedEnds}
+use Rattle.plc.specs.Lpc.{celtLpc, length-celtLpc}
+use Rattle.plc.specs.LagWindow.{lagWindow}
+
+-- how many coefficients a predictor has
+abbrev pub order : ℕ
+order = 24
+
+-- a channel's coefficients, from its newest 1,024 samples
+unfoldable pub pitchFit : List Float → List Float
+pitchFit new = celtLpc (lagWindow (celtAutocorr (windowedEnds new window) 25)) order
+
+pub length-pitchFit : (new : List Float) → length (pitchFit new) ≡ order
+unfolding pitchFit
+length-pitchFit new = length-celtLpc _ order
+
+-- how many samples, how many coefficients
+unfoldable pub fitTakes : ℕ → ℕ → Bool
+fitTakes n m = eqb n half && eqb m order
+
+-- the used channels' coefficients fitted anew, of two or one; an unused channel's are carried
+unfoldable pub fittedTo : Bool → List Float → Tails → List Float
+fittedTo two predictor t = pitchFit (t .first .new) ++ cond two (pitchFit (t .second .new)) (drop order predictor)
