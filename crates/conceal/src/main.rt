@@ -4,15 +4,15 @@ use libc::STDOUT_FILENO;
 
 // Reads and answers one record; false at the end of the input, and where the output is closed.
 fn conceal_one() -> bool {
-    let mut rec = [0u8; 17988];
+    let mut rec = [0u8; record::BYTES];
     let got = io::read_full(STDIN_FILENO, &mut rec);
-    let mut head = [0u8; 7692];
-    if got < 17988 {
-        let cut = record::answer::answer_tail(got, &mut head);
+    let mut head = [0u8; answer::HEAD_BYTES];
+    if got < record::BYTES {
+        let cut = answer::answer_tail(got, &mut head);
         io::write_all(STDOUT_FILENO, &head[..cut]);
         return false;
     }
-    let n = record::answer::answer_record(&mut rec, &mut head);
+    let n = answer::answer_record(&mut rec, &mut head);
     if !io::write_all(STDOUT_FILENO, &head[..n]) {
         return false;
     }

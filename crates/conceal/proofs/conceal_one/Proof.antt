@@ -3,7 +3,7 @@ use mathlib.Core.Path.{sym}
 use native.Mathlib.Omega.{arith}
 use borrow.Author.Needs.{needs}
 use lib.Seq.{length-take-le}
-use Rattle.record.proofs.Answers.{answer-le, tail-le}
+use Rattle.answer.proofs.Answers.{answer-most, tail-most}
 use Rattle.conceal.proofs.conceal_one.Statement.{statement}
 use Rattle.conceal.proofs.conceal_one.Tie as tie
 
@@ -20,10 +20,16 @@ answer-tail-requires : tie.Need-answer-tail-requires
 answer-tail-requires c κs = search needs
 
 array-share-prefix-head : tie.Need-array-share-prefix-head
-array-share-prefix-head c = let l = tail-le _ _ _ (c .before .answer-tail .ensures .0) in omega (arith, c .before .answer-tail .kept .1 .0)
+array-share-prefix-head c =
+    let answer = c .before .answer-tail in
+    let most = tail-most _ _ _ _ (answer .ensures) in
+    omega (arith, answer .kept .1 .0)
 
 slice-aggregate-write-all : tie.Need-slice-aggregate-write-all
-slice-aggregate-write-all c = sym (length-take-le _ _ (let l = tail-le _ _ _ (c .before .before .answer-tail .ensures .0) in omega (arith, c .before .before .answer-tail .kept .1 .0)))
+slice-aggregate-write-all c =
+    let answer = c .before .before .answer-tail in
+    let most = tail-most _ _ _ _ (answer .ensures) in
+    sym (length-take-le _ _ (omega (arith, answer .kept .1 .0)))
 
 write-all-requires : tie.Need-write-all-requires
 write-all-requires c κs = search needs
@@ -41,10 +47,16 @@ answer-record-requires : tie.Need-answer-record-requires
 answer-record-requires c κs = search needs
 
 array-share-prefix-head-2 : tie.Need-array-share-prefix-head-2
-array-share-prefix-head-2 c = let l = answer-le _ _ _ (c .before .before .answer-record .ensures .0) in omega (arith, c .before .before .answer-record .kept .1 .0)
+array-share-prefix-head-2 c =
+    let answer = c .before .before .answer-record in
+    let most = answer-most _ _ _ _ _ (answer .ensures) in
+    omega (arith, answer .kept .1 .0)
 
 slice-aggregate-write-all-2 : tie.Need-slice-aggregate-write-all-2
-slice-aggregate-write-all-2 c = sym (length-take-le _ _ (let l = answer-le _ _ _ (c .before .before .before .answer-record .ensures .0) in omega (arith, c .before .before .before .answer-record .kept .1 .0)))
+slice-aggregate-write-all-2 c =
+    let answer = c .before .before .before .answer-record in
+    let most = answer-most _ _ _ _ _ (answer .ensures) in
+    sym (length-take-le _ _ (omega (arith, answer .kept .1 .0)))
 
 write-all-requires-2 : tie.Need-write-all-requires-2
 write-all-requires-2 c κs = search needs
