@@ -14,15 +14,15 @@ use Rattle.loops.specs.Logic.{and-both, and-first, and-second, cond-either}
 use Rattle.loops.specs.Part.{put}
 use Rattle.loops.specs.Pick.{pick-true, pick-false}
 use Rattle.history.specs.History.{whole}
-use Rattle.state.specs.Answer.{Report, reportOf}
+use Rattle.state.specs.Answer.{Report, reportOf, numberOf}
 use Rattle.state.specs.declared.Answer.{Answer}
 use Rattle.state.specs.declared.State.{State}
-use Rattle.ref_decode.specs.Loss.{Outcome, loss, called, calledOn}
+use Rattle.ref_decode.specs.Loss.{loss, outcomeOf, inBuffer, Outcome}
 use Rattle.ref_decode.proofs.Samples.{loss-samples}
 use Rattle.words.specs.Bytes.{wordsBytes, floatsBytes, floatsAt}
 use Rattle.words.proofs.Laws.{length-bytes, put-front, put-next}
 use Rattle.record.specs.Record.{recordLength, stateOf, historyOf, recordOf}
-use Rattle.answer.specs.Answer.{samplesMost, reportLength, headMost, outcomeOf, headOf, recordAfter, cutOf, Headed, headed, headedBy, Answered, answered, takes, answerRecord, answerTail}
+use Rattle.answer.specs.Answer.{samplesMost, reportLength, headMost, lossOf, headOf, recordAfter, cutOf, Headed, headed, headedBy, Answered, withRecord, takes, answerRecord, answerTail}
 
 -- three words, and then the samples
 pub head-parts : (a b c n : ℕ) (xs : List Float) (h y z : List ℕ) → length xs ≡ n → y ≡ put 0 12 (wordsBytes (a ∷ b ∷ c ∷ [])) h
@@ -43,49 +43,43 @@ unfolding front
 front-taken xs ys n l = take-at xs (drop (length xs) ys) n l
 
 pub outcome-samples : (b : List ℕ)
-    → (length (outcomeOf b .pcm) ≡ outcomeOf b .report .samples) × (outcomeOf b .report .samples ≤ samplesMost)
-unfolding outcomeOf
+    → (length (lossOf b .pcm) ≡ lossOf b .report .samples) × (lossOf b .report .samples ≤ samplesMost)
+unfolding lossOf
 outcome-samples b = loss-samples (stateOf b) (historyOf b) samplesMost
-
-pub samples-most : (b : List ℕ) (r : Report) → r ≡ outcomeOf b .report → r .samples ≤ samplesMost
-samples-most b r e = subst (λ z. z .samples ≤ samplesMost) (sym e) (outcome-samples b .1)
 
 -- the call on what was read is the record's outcome
 pub outcome-from : (b : List ℕ) (s : State) (h : List Float) (m n : ℕ) → s ≡ stateOf b → h ≡ floatsAt b 161 m → m ≡ whole → n ≡ samplesMost
-    → loss s h n ≡ outcomeOf b
-unfolding outcomeOf historyOf
+    → loss s h n ≡ lossOf b
+unfolding lossOf historyOf
 outcome-from b s h m n e f g k = λ i. loss (e i) ((f ∙ ap (floatsAt b 161) g) i) (k i)
 
--- what a call leaves, by parts
-pub call-parts : (a : Answer) (s : State) (h p g q : List Float) (o : Outcome) → called a g q ≡ calledOn s h p → loss s h (length p) ≡ o
-    → (reportOf a ≡ o .report) × (a .state ≡ o .state) × (g ≡ o .history) × (q ≡ front (o .pcm) p (length (o .pcm)))
-unfolding calledOn
-call-parts a s h p g q o e m = (
-  ap (λ z. z .report) e ∙ ap (λ z. z .report) m,
-  ap (λ z. z .state) e ∙ ap (λ z. z .state) m,
-  ap (λ z. z .history) e ∙ ap (λ z. z .history) m,
-  ap (λ z. z .pcm) e ∙ ap (λ z. front (z .pcm) p (length (z .pcm))) m,
-)
+-- what the steps leave, from what the call left
+module _ (b : List ℕ) (a : Answer) (p q g : List Float) (made : outcomeOf a q g ≡ inBuffer p (lossOf b)) where
+  report : reportOf a ≡ lossOf b .report
+  unfolding inBuffer
+  report = ap (λ z. z .report) made
 
-module _ (o : Outcome) (many : length (o .pcm) ≡ o .report .samples) where
-  -- the head that the steps leave
-  pub head-is : (r : Report) (p q : List Float) (number : ℕ) (h : Headed) (lent : List ℕ) → r ≡ o .report
-      → q ≡ front (o .pcm) p (length (o .pcm)) → number ≡ r .number
-      → h ≡ headedBy (wordsBytes (number ∷ r .kind ∷ r .samples ∷ []) ++ floatsBytes (take (r .samples) q)) lent → h ≡ headedBy (headOf o) lent
-  unfolding headOf
-  head-is r p q number h lent e f a g =
-      let m : r .samples ≡ o .report .samples = ap (λ z. z .samples) e in
-      let t : take (r .samples) q ≡ o .pcm = ap (take (r .samples)) f ∙ front-taken (o .pcm) p (r .samples) (many ∙ sym m) in
-      let n : number ≡ o .report .number = a ∙ ap (λ z. z .number) e in
-      g ∙ (λ i. headedBy (wordsBytes (n i ∷ e i .kind ∷ m i ∷ []) ++ floatsBytes (t i)) lent)
+  pub samples-most : a .samples ≤ samplesMost
+  samples-most = subst (λ (z : Report). z .samples ≤ samplesMost) (sym report) (outcome-samples b .1)
 
--- the record that they leave
-pub record-is : (b : List ℕ) (r : Report) (t : State) (g : List Float) (number : ℕ) (y : List ℕ) → r ≡ outcomeOf b .report → t ≡ outcomeOf b .state
-    → g ≡ outcomeOf b .history → number ≡ r .number → y ≡ cond (eqb number 0) (recordOf t g) b → y ≡ recordAfter b
-unfolding recordAfter
-record-is b r t g number y e f h a p =
-    let n : number ≡ outcomeOf b .report .number = a ∙ ap (λ z. z .number) e in
-    p ∙ (λ i. cond (eqb (n i) 0) (recordOf (f i) (h i)) b)
+  -- the head
+  pub head-is : (h : Headed) (lent : List ℕ) (number : ℕ) → number ≡ numberOf (a .number)
+      → h ≡ headedBy (wordsBytes (number ∷ a .kind ∷ a .samples ∷ []) ++ floatsBytes (take (a .samples) q)) lent → h ≡ headedBy (headOf (lossOf b)) lent
+  unfolding headOf inBuffer
+  head-is h lent number e f =
+      let o = lossOf b in
+      let n : number ≡ o .report .number = e ∙ ap (λ z. z .number) report in
+      let k : a .kind ≡ o .report .kind = ap (λ z. z .kind) report in
+      let m : a .samples ≡ o .report .samples = ap (λ z. z .samples) report in
+      let t : take (a .samples) q ≡ o .pcm = ap (λ z. take (a .samples) (z .pcm)) made ∙ front-taken (o .pcm) p (a .samples) (outcome-samples b .0 ∙ sym m) in
+      f ∙ (λ i. headedBy (wordsBytes (n i ∷ k i ∷ m i ∷ []) ++ floatsBytes (t i)) lent)
+
+  -- the record
+  pub record-is : (y : List ℕ) (number : ℕ) → number ≡ numberOf (a .number) → y ≡ cond (eqb number 0) (recordOf (a .state) g) b → y ≡ recordAfter b
+  unfolding recordAfter inBuffer
+  record-is y number e f =
+      let n : number ≡ lossOf b .report .number = e ∙ ap (λ z. z .number) report in
+      f ∙ (λ i. cond (eqb (n i) 0) (recordOf (made i .state) (made i .history)) b)
 
 -- the public step
 module _ (b h : List ℕ) where
@@ -101,13 +95,13 @@ module _ (b h : List ℕ) where
   unfolding takes
   no-room q = and-second (eqb (length b) recordLength) (leb headMost (length h)) (lt-leb headMost (length h) q)
 
-  pub stays : takes b h ≡ false → answered (headed 0 h) b ≡ answerRecord b h
+  pub stays : takes b h ≡ false → withRecord (headed 0 h) b ≡ answerRecord b h
   unfolding answerRecord
-  stays e = sym (pick-false (takes b h) (answered (headedBy (headOf (outcomeOf b)) h) (recordAfter b)) (answered (headed 0 h) b) e)
+  stays e = sym (pick-false (takes b h) (withRecord (headedBy (headOf (lossOf b)) h) (recordAfter b)) (withRecord (headed 0 h) b) e)
 
-  pub answers : takes b h ≡ true → {a : Answered} → a ≡ answered (headedBy (headOf (outcomeOf b)) h) (recordAfter b) → a ≡ answerRecord b h
+  pub answers : takes b h ≡ true → {a : Answered} → a ≡ withRecord (headedBy (headOf (lossOf b)) h) (recordAfter b) → a ≡ answerRecord b h
   unfolding answerRecord
-  answers e q = q ∙ sym (pick-true (takes b h) (answered (headedBy (headOf (outcomeOf b)) h) (recordAfter b)) (answered (headed 0 h) b) e)
+  answers e q = q ∙ sym (pick-true (takes b h) (withRecord (headedBy (headOf (lossOf b)) h) (recordAfter b)) (withRecord (headed 0 h) b) e)
 
 -- what is left past the last whole record
 module _ (n : ℕ) (h : List ℕ) where
@@ -127,10 +121,10 @@ module _ (n : ℕ) (h : List ℕ) where
       simp (le-leb reportLength (length h) l, ne-eqb n 0 f) (ap₂ headed (sym k) (e ∙ put-front 12 w h ∙ ap (front w h) (sym k)))
 
 -- an answer's length is at most that of the buffer it needs
-head-most : (b : List ℕ) → length (headOf (outcomeOf b)) ≤ headMost
+head-most : (b : List ℕ) → length (headOf (lossOf b)) ≤ headMost
 unfolding headOf
 head-most b =
-    let o = outcomeOf b in
+    let o = lossOf b in
     let w = wordsBytes (o .report .number ∷ o .report .kind ∷ o .report .samples ∷ []) in
     let lw : length w ≡ 12 = length-bytes _ 3 in
     let lx : length (floatsBytes (o .pcm)) ≡ 4 * length (o .pcm) = length-bytes _ _ in
@@ -140,7 +134,7 @@ cut-most : (n : ℕ) → length (cutOf n) ≤ reportLength
 unfolding cutOf
 cut-most n = cond-either (λ x. length x ≤ reportLength) (eqb n 0) [] (wordsBytes (11 ∷ 0 ∷ 0 ∷ [])) (omega arith) (omega (arith, length-bytes (λ (i : ℕ). getD (11 ∷ 0 ∷ 0 ∷ []) i 0) 3))
 
-pub answer-most : (r : ℕ) (z y b h : List ℕ) → answered (headed r z) y ≡ answerRecord b h → r ≤ headMost
+pub answer-most : (r : ℕ) (z y b h : List ℕ) → withRecord (headed r z) y ≡ answerRecord b h → r ≤ headMost
 unfolding answerRecord
 answer-most r z y b h e =
     subst (λ n. n ≤ headMost) (ap (λ a. a .headed .count) (sym e))

@@ -21,8 +21,8 @@ abbrev pub headMost : ℕ
 headMost = reportLength + 4 * samplesMost
 
 -- one loss on a record's state and history, with room for every sample
-unfoldable pub outcomeOf : List ℕ → Outcome
-outcomeOf b = loss (stateOf b) (historyOf b) samplesMost
+unfoldable pub lossOf : List ℕ → Outcome
+lossOf b = loss (stateOf b) (historyOf b) samplesMost
 
 -- number, kind and sample count, and then the samples
 unfoldable pub headOf : Outcome → List ℕ
@@ -31,7 +31,7 @@ headOf o = wordsBytes (o .report .number ∷ o .report .kind ∷ o .report .samp
 -- the new record; a refused one as it was read
 unfoldable pub recordAfter : List ℕ → List ℕ
 recordAfter b =
-    let o = outcomeOf b in
+    let o = lossOf b in
     cond (eqb (o .report .number) 0) (recordOf (o .state) (o .history)) b
 
 -- the answer to what is left past the last whole record: nothing to nothing, and 11, 0, 0 to a record that is cut short
@@ -41,7 +41,7 @@ cutOf n = cond (eqb n 0) [] (wordsBytes (11 ∷ 0 ∷ 0 ∷ []))
 -- the answers to n records and what is left past them
 unfoldable pub answersTo : ℕ → List ℕ → List ℕ
 answersTo zero b = cutOf (length b)
-answersTo (suc n) b = (headOf (outcomeOf (take recordLength b)) ++ recordAfter (take recordLength b)) ++ answersTo n (drop recordLength b)
+answersTo (suc n) b = (headOf (lossOf (take recordLength b)) ++ recordAfter (take recordLength b)) ++ answersTo n (drop recordLength b)
 
 -- all that the program writes for a whole input
 unfoldable pub answers : List ℕ → List ℕ
@@ -66,8 +66,8 @@ pub record Answered : Type 0 where
   pub headed : Headed
   pub rec : List ℕ
 
-abbrev pub answered : Headed → List ℕ → Answered
-answered h b = record { headed = h; rec = b }
+abbrev pub withRecord : Headed → List ℕ → Answered
+withRecord h b = record { headed = h; rec = b }
 
 -- other lengths are refused
 unfoldable pub takes : List ℕ → List ℕ → Bool
@@ -76,7 +76,7 @@ takes b head = eqb (length b) recordLength && leb headMost (length head)
 -- a record's step
 unfoldable pub answerRecord : List ℕ → List ℕ → Answered
 answerRecord b head =
-    cond (takes b head) (answered (headedBy (headOf (outcomeOf b)) head) (recordAfter b)) (answered (headed 0 head) b)
+    cond (takes b head) (withRecord (headedBy (headOf (lossOf b)) head) (recordAfter b)) (withRecord (headed 0 head) b)
 
 -- the step for what is left past the last whole record, n bytes of it
 unfoldable pub answerTail : ℕ → List ℕ → Headed

@@ -6,11 +6,10 @@ ghost use Prim.Native.Nat.{_+_, _*_, _≤_};
 ghost use lib.ListN.{length, take};
 ghost use lib.Dec.{eqb};
 ghost use Rattle.history.specs.History.{whole};
-ghost use Rattle.loops.specs.Front.{front};
-ghost use Rattle.state.specs.Answer.{reportOf};
+ghost use Rattle.ref_decode.specs.Loss.{outcomeOf, inBuffer};
 ghost use Rattle.words.specs.Bytes.{wordsBytes, floatsBytes};
 ghost use Rattle.record.specs.Record.{recordLength, recordOf};
-ghost use Rattle.answer.specs.Answer.{samplesMost, headMost, outcomeOf, headOf, recordAfter, headed, headedBy, answered, answerRecord, answerTail};
+ghost use Rattle.answer.specs.Answer.{samplesMost, headMost, lossOf, headOf, recordAfter, headed, headedBy, withRecord, answerRecord, answerTail};
 use state::Answer;
 use state::State;
 
@@ -28,10 +27,7 @@ const CUT_SHORT: u32 = 11;
 // One loss on a record's state and history.
 fn conceal_record(rec: &[u8], history: &mut [f32], pcm: &mut [f32]) -> Answer
     requires { ⌜ (length (now history) ≡ whole) × (length (now pcm) ≡ samplesMost) ⌝ }
-    ensures { λ r. ⌜ (reportOf r ≡ outcomeOf (now (rec .entry)) .report)
-        × (r .state ≡ outcomeOf (now (rec .entry)) .state)
-        × (now (history .exit) ≡ outcomeOf (now (rec .entry)) .history)
-        × (now (pcm .exit) ≡ front (outcomeOf (now (rec .entry)) .pcm) (now (pcm .entry)) (length (outcomeOf (now (rec .entry)) .pcm))) ⌝ }
+    ensures { λ r. ⌜ outcomeOf r (now (pcm .exit)) (now (history .exit)) ≡ inBuffer (now (pcm .entry)) (lossOf (now (rec .entry))) ⌝ }
 {
     let s = record::read_state(rec);
     words::floats_at(rec, record::HISTORY, history);
@@ -63,8 +59,8 @@ fn write_head(head: &mut [u8], number: u32, kind: u32, samples: usize, pcm: &[f3
 
 fn answer(rec: &mut [u8], head: &mut [u8]) -> usize
     requires { ⌜ (length (now rec) ≡ recordLength) × (headMost ≤ length (now head)) ⌝ }
-    ensures { λ r. ⌜ answered (headed r (now (head .exit))) (now (rec .exit))
-        ≡ answered (headedBy (headOf (outcomeOf (now (rec .entry)))) (now (head .entry))) (recordAfter (now (rec .entry))) ⌝ }
+    ensures { λ r. ⌜ withRecord (headed r (now (head .exit))) (now (rec .exit))
+        ≡ withRecord (headedBy (headOf (lossOf (now (rec .entry)))) (now (head .entry))) (recordAfter (now (rec .entry))) ⌝ }
 {
     let mut history = [0.0f32; history::WHOLE];
     let mut pcm = [0.0f32; SAMPLES_MOST];
@@ -79,7 +75,7 @@ fn answer(rec: &mut [u8], head: &mut [u8]) -> usize
 // One record's step: the record becomes the one after its loss, and `head` starts with number, kind, sample count and
 // samples, as many bytes as is returned. Unless the record has 17,988 bytes and `head` 7,692 or more, both stay and 0 is returned.
 pub fn answer_record(rec: &mut [u8], head: &mut [u8]) -> usize
-    ensures { λ r. ⌜ answered (headed r (now (head .exit))) (now (rec .exit)) ≡ answerRecord (now (rec .entry)) (now (head .entry)) ⌝ }
+    ensures { λ r. ⌜ withRecord (headed r (now (head .exit))) (now (rec .exit)) ≡ answerRecord (now (rec .entry)) (now (head .entry)) ⌝ }
 {
     if rec.len() != record::BYTES {
         return 0;

@@ -1,11 +1,3 @@
-pub mod Laws
-pub mod Table
-pub mod Parts
-pub mod Keep
-pub mod Limits
-pub mod Channels
-pub mod Voices
-pub mod Pitches
-pub mod Noises
-pub mod Entry
-pub mod Samples
+mod Frames
+mod Paths
+mod Entry

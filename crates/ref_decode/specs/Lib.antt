@@ -1,8 +1,2 @@
--- One loss and runs of losses: what `decode_lost` computes, and what it can depend on.
-pub mod State
-pub mod Refusal
-pub mod History
-pub mod Steps
+-- One loss: what `decode_lost` computes.
 pub mod Loss
-pub mod Run
-pub mod Marked

@@ -1,175 +1,135 @@
 -- One loss: a call to conceal a frame, lent a history and a PCM buffer.
-use mathlib.Core.Bool.{Bool, cond}
-use mathlib.Core.List.{List, [], _++_}
+use mathlib.Core.Bool.{cond}
+use mathlib.Core.List.{List, []}
 use Prim.Native.Nat.{ℕ, zero, suc, _+_}
-use lib.ListN.{length, take, drop}
+use lib.ListN.{length}
 use lib.Dec.{eqb}
 use lib.Ieee.{Float}
-use Rattle.pitch_loss.specs.Fit.{pitchFit}
-use Rattle.pitch_loss.specs.declared.Filter.{Filter}
-use Rattle.noise_loss.specs.Energies.{readEnergies}
-use Rattle.noise_loss.specs.Block.{Block}
-use Rattle.deemphasis.specs.Deemphasis.{Sound}
-use Rattle.ref_decode.specs.State.{Core, core, needed, stereo, noisy, searches}
-use Rattle.ref_decode.specs.Refusal.{refusal, refusedWith}
-use Rattle.ref_decode.specs.History.{Tails, tails, withTails, ahead}
-use Rattle.ref_decode.specs.Steps.{lagOf, pitch, lower, block, voice, covered}
-use Rattle.ref_decode.specs.declared.state.Settings.{Settings}
-use Rattle.ref_decode.specs.declared.state.State.{State}
-use Rattle.ref_decode.specs.declared.state.Verdict.{Verdict}
-use Rattle.ref_decode.specs.declared.state.Verdict.the-variants.{Pitch, Noise}
+use Rattle.loops.specs.Front.{front}
+use Rattle.history.specs.History.{Tails, tails, withTails, newest}
+use Rattle.state.specs.Settings.{frame, stereo, needed}
+use Rattle.state.specs.State.{Core, core, noisy, searches}
+use Rattle.state.specs.Refusal.{refusal}
+use Rattle.state.specs.Answer.{Report, reportOf}
+use Rattle.state.specs.declared.Settings.{Settings}
+use Rattle.state.specs.declared.State.{State}
+use Rattle.state.specs.declared.Answer.{Answer}
+use Rattle.pitch_fit.specs.Lag.{lagOf}
+use Rattle.pitch_fit.specs.Fit.{fittedTo}
+use Rattle.pitch_loss.specs.PitchLoss.{pitchTails}
+use Rattle.noise_loss.specs.Energies.{lowerEnergies, readEnergies}
+use Rattle.noise_loss.specs.Loss.{Blocks, noiseBlocks, noiseSeed, noiseTails}
+use Rattle.deemphasis.specs.Deemphasis.{Sound, sound, deemphasis}
+use Rattle.ref_decode.specs.declared.Made.{Made}
 
--- ---- the noise path: all of it but the old overlap's part is a function of the core
-
--- the blocks of both channels' energies, 25 of each
-abbrev pub firstBlock : Settings → ℕ → List Float → Block
-firstBlock k seed e = block k seed (take 25 e)
-
--- it goes on from the first one's seed
-abbrev pub secondBlock : Settings → ℕ → List Float → Block
-secondBlock k seed e = block k (firstBlock k seed e .seed) (drop 25 e)
-
-unfoldable pub blocksSeed : Settings → ℕ → List Float → ℕ
-blocksSeed k seed e = cond (stereo k) (secondBlock k seed e .seed) (firstBlock k seed e .seed)
-
-unfoldable pub blockTails : Settings → ℕ → List Float → Tails → Tails
-blockTails k seed e t = record {
-  first = covered k (firstBlock k seed e .samples) (t .first);
-  second = cond (stereo k) (covered k (secondBlock k seed e .samples) (t .second)) (t .second);
-}
+-- ---- the noise path: all of it but the old overlaps' part is a function of the core
 
 -- the coarse energies after it
 unfoldable pub lowered : Core → List Float
-lowered c = lower (c .settings) (c .count) (c .coarse)
+lowered c = lowerEnergies (c .settings .channels) (c .settings .start) (c .settings .end) (c .count) (c .coarse)
 
--- the energies that it reads
-unfoldable pub energies : Core → List Float
-energies c = readEnergies (c .count) (lowered c) (c .background)
+-- the used channels' blocks, by the energies that it reads
+unfoldable pub blocks : Core → Blocks
+blocks c = noiseBlocks (c .settings) (c .seed) (readEnergies (c .count) (lowered c) (c .background))
 
-unfoldable pub blockOne : Core → Block
-blockOne c = firstBlock (c .settings) (c .seed) (energies c)
-
-unfoldable pub blockTwo : Core → Block
-blockTwo c = secondBlock (c .settings) (c .seed) (energies c)
-
-abbrev pub noiseSeed : Core → ℕ
-noiseSeed c = blocksSeed (c .settings) (c .seed) (energies c)
-
-abbrev pub noiseTails : Core → Tails → Tails
-noiseTails c t = blockTails (c .settings) (c .seed) (energies c) t
+unfoldable pub noiseMade : State → Made
+noiseMade s = record {
+  kind = 2;
+  seed = noiseSeed (stereo (s .settings)) (blocks (core s));
+  lag = s .lag;
+  coarse = lowered (core s);
+  predictor = s .predictor;
+}
 
 -- ---- the pitch path: its first loss searches the whole history, and every later one reads the tails alone
 
-unfoldable pub lagUsed : State → List Float → ℕ
-lagUsed s h = cond (searches s) (lagOf (s .settings) h) (s .lag)
-
--- the used channels' coefficients fitted anew; an unused channel's are carried
-unfoldable pub fittedTo : Settings → List Float → Tails → List Float
-fittedTo k predictor t = pitchFit (t .first .new) ++ cond (stereo k) (pitchFit (t .second .new)) (drop 24 predictor)
-
-unfoldable pub predictorUsed : State → Tails → List Float
-predictorUsed s t = cond (searches s) (fittedTo (s .settings) (s .predictor) t) (s .predictor)
-
--- each used channel, by its own 24 coefficients
-unfoldable pub channelTails : Settings → ℕ → Bool → List Float → Filter → Tails → Tails
-channelTails k lag first c f t = record {
-  first = pitch k (t .first) lag first (take 24 c) f;
-  second = cond (stereo k) (pitch k (t .second) lag first (drop 24 c) f) (t .second);
+unfoldable pub pitchMade : State → List Float → Made
+pitchMade s h = record {
+  kind = 1;
+  seed = s .seed;
+  lag = cond (searches s) (lagOf (stereo (s .settings)) h) (s .lag);
+  coarse = s .coarse;
+  predictor = cond (searches s) (fittedTo (stereo (s .settings)) (s .predictor) (tails h)) (s .predictor);
 }
 
-abbrev pub pitchTails : State → ℕ → Tails → Tails
-pitchTails s lag t = channelTails (s .settings) lag (eqb (s .«loss_count») 0) (predictorUsed s t) (s .filter) t
+-- ---- either path
 
--- ---- either path, and de-emphasis
+unfoldable pub made : State → List Float → Made
+made s h = cond (noisy (core s)) (noiseMade s) (pitchMade s h)
 
-unfoldable pub tailsAfter : State → ℕ → Tails → Tails
-tailsAfter s lag t = cond (noisy (core s)) (noiseTails (core s) t) (pitchTails s lag t)
+-- the tails that it leaves
+unfoldable pub tailsByNoise : State → Tails → Tails
+tailsByNoise s t = noiseTails (stereo (s .settings)) (frame (s .settings)) (blocks (core s)) t
+
+unfoldable pub tailsByPitch : State → Made → Tails → Tails
+tailsByPitch s m t = pitchTails (stereo (s .settings)) (frame (s .settings)) (m .lag) (eqb (s .«loss_count») 0) (m .predictor) (s .filter) t
+
+unfoldable pub tailsAfter : State → Made → Tails → Tails
+tailsAfter s m t = cond (noisy (core s)) (tailsByNoise s t) (tailsByPitch s m t)
 
 unfoldable pub historyAfter : State → List Float → List Float
-historyAfter s h = withTails h (tailsAfter s (lagUsed s h) (tails h))
-
-unfoldable pub seedAfter : Core → ℕ
-seedAfter c = cond (noisy c) (noiseSeed c) (c .seed)
-
-unfoldable pub coarseAfter : Core → List Float
-coarseAfter c = cond (noisy c) (lowered c) (c .coarse)
-
-unfoldable pub sound : State → List Float → Sound
-sound s h = voice (s .settings) (ahead (s .settings) (historyAfter s h)) (s .memories)
-
--- a state after each step: the noise path, the pitch path, de-emphasis
-unfoldable pub noiseState : State → State
-noiseState s = record {
-  settings = s .settings;
-  «loss_count» = s .«loss_count»;
-  seed = noiseSeed (core s);
-  lag = s .lag;
-  filter = s .filter;
-  coarse = lowered (core s);
-  background = s .background;
-  memories = s .memories;
-  predictor = s .predictor;
-}
-
-unfoldable pub pitchState : State → List Float → State
-pitchState s h = record {
-  settings = s .settings;
-  «loss_count» = s .«loss_count»;
-  seed = s .seed;
-  lag = lagUsed s h;
-  filter = s .filter;
-  coarse = s .coarse;
-  background = s .background;
-  memories = s .memories;
-  predictor = predictorUsed s (tails h);
-}
-
-unfoldable pub finishedState : State → List Float → State
-finishedState s h = record {
-  settings = s .settings;
-  «loss_count» = s .«loss_count» + 1;
-  seed = s .seed;
-  lag = s .lag;
-  filter = s .filter;
-  coarse = s .coarse;
-  background = s .background;
-  memories = voice (s .settings) (ahead (s .settings) h) (s .memories) .memories;
-  predictor = s .predictor;
-}
+historyAfter s h = withTails h (tailsAfter s (made s h) (tails h))
 
 -- ---- the whole call
 
 pub record Outcome : Type 0 where
-  pub verdict : Verdict
+  pub report : Report
   -- the samples written
   pub pcm : List Float
   pub state : State
   pub history : List Float
 
--- an accepted loss
-unfoldable pub concealed : State → List Float → Outcome
-concealed s h = record {
-  verdict = cond (noisy (core s)) (Noise (needed (s .settings))) (Pitch (needed (s .settings)));
-  pcm = (sound s h) .pcm;
+-- de-emphasis of the newest N of each used channel
+unfoldable pub frameSound : Settings → List Float → List Float → Sound
+frameSound k memories h = deemphasis (k .downsample) (newest (stereo k) (frame k) h) memories
+
+-- from what a path made and the history that it left
+unfoldable pub finish : State → Made → List Float → Outcome
+finish s m h = record {
+  report = record { number = 0; kind = m .kind; samples = needed (s .settings) };
+  pcm = frameSound (s .settings) (s .memories) h .pcm;
   state = record {
     settings = s .settings;
     «loss_count» = s .«loss_count» + 1;
-    seed = seedAfter (core s);
-    lag = lagUsed s h;
+    seed = m .seed;
+    lag = m .lag;
     filter = s .filter;
-    coarse = coarseAfter (core s);
+    coarse = m .coarse;
     background = s .background;
-    memories = (sound s h) .memories;
-    predictor = predictorUsed s (tails h);
+    memories = frameSound (s .settings) (s .memories) h .memories;
+    predictor = m .predictor;
   };
-  history = historyAfter s h;
+  history = h;
 }
 
--- by the number: 0 is acceptance, and any other leaves all as it was
+-- an accepted loss
+unfoldable pub concealed : State → List Float → Outcome
+concealed s h = finish s (made s h) (historyAfter s h)
+
+-- a refused one leaves all as it was
+unfoldable pub refused : ℕ → State → List Float → Outcome
+refused n s h = record { report = record { number = n; kind = 0; samples = 0 }; pcm = []; state = s; history = h }
+
+-- by the number
 unfoldable pub answered : ℕ → State → List Float → Outcome
 answered zero s h = concealed s h
-answered (suc n) s h = record { verdict = refusedWith (suc n); pcm = []; state = s; history = h }
+answered (suc n) s h = refused (suc n) s h
 
 -- one call, lent a PCM buffer of p samples
 unfoldable pub loss : State → List Float → ℕ → Outcome
 loss s h p = answered (refusal s (length h) p) s h
+
+-- ---- the same as a caller finds it: the answer, the PCM buffer and the history
+
+abbrev pub outcomeOf : Answer → List Float → List Float → Outcome
+outcomeOf a pcm h = record { report = reportOf a; pcm = pcm; state = a .state; history = h }
+
+-- samples written into a buffer's first places; the rest of a longer one is as it was
+abbrev pub written : List Float → List Float → List Float
+written x p = front x p (length x)
+
+unfoldable pub inBuffer : List Float → Outcome → Outcome
+inBuffer p o = record { report = o .report; pcm = written (o .pcm) p; state = o .state; history = o .history }
+
+unfoldable pub soundIn : List Float → Sound → Sound
+soundIn p y = sound (written (y .pcm) p) (y .memories)

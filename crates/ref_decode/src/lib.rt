@@ -1,47 +1,79 @@
 // One lost frame, from a carried state and its lent history to PCM: `CeltRefDecoder::decode_lost`.
-mod checks;
+mod finish;
 mod noise;
 mod pitch;
-pub mod state;
-mod voice;
 
 ghost use mathlib.Core.Path.{_≡_};
+ghost use mathlib.Core.Bool.{true, false};
 ghost use lib.ListN.{length};
-ghost use Rattle.loops.specs.Front.{front};
-ghost use Rattle.ref_decode.specs.Loss.{loss};
+ghost use Rattle.state.specs.State.{core, noisy};
+ghost use Rattle.state.specs.Refusal.{refusal};
+ghost use Rattle.ref_decode.specs.Loss.{concealed, loss, outcomeOf, inBuffer};
 use state::Answer;
 use state::State;
-use state::Verdict;
+use state::checks::first_refusal;
+
+// The kinds of an accepted loss.
+const PITCH_KIND: u32 = 1;
+
+const NOISE_KIND: u32 = 2;
+
+// What a path made of a state.
+pub struct Made {
+    pub kind: u32,
+    pub seed: u32,
+    pub lag: u32,
+    pub coarse: [f32; 50],
+    pub predictor: [f32; 48],
+}
+
+// The first loss count that goes by noise at any start band.
+const FIRST_NOISE: u32 = 5;
+
+// Whether an accepted loss goes by noise.
+fn by_noise(s: State) -> bool
+    ensures { λ r. ⌜ r ≡ noisy (core s) ⌝ }
+{
+    let k = s.settings;
+    if FIRST_NOISE <= s.loss_count {
+        return true;
+    }
+    k.start != 0
+}
+
+fn conceal_by_noise(s: State, history: &mut [f32], pcm: &mut [f32]) -> Answer
+    requires { ⌜ (refusal s (length (now history)) (length (now pcm)) ≡ 0) × (noisy (core s) ≡ true) ⌝ }
+    ensures { λ r. ⌜ outcomeOf r (now (pcm .exit)) (now (history .exit)) ≡ inBuffer (now (pcm .entry)) (concealed s (now (history .entry))) ⌝ }
+{
+    let made = noise::noise_made(s, history);
+    finish::finish(s, made, history, pcm)
+}
+
+fn conceal_by_pitch(s: State, history: &mut [f32], pcm: &mut [f32]) -> Answer
+    requires { ⌜ (refusal s (length (now history)) (length (now pcm)) ≡ 0) × (noisy (core s) ≡ false) ⌝ }
+    ensures { λ r. ⌜ outcomeOf r (now (pcm .exit)) (now (history .exit)) ≡ inBuffer (now (pcm .entry)) (concealed s (now (history .entry))) ⌝ }
+{
+    let made = pitch::pitch_made(s, history);
+    finish::finish(s, made, history, pcm)
+}
 
 // Conceals one lost frame: `history` is 4,336 samples, channel 0 first, each channel's 2,048 oldest first and then
 // 120 of overlap. An accepted call leaves the rest of a longer PCM buffer as it was; a refused one leaves everything.
 pub fn decode_lost(s: State, history: &mut [f32], pcm: &mut [f32]) -> Answer
-    ensures { λ r. ⌜ (r .verdict ≡ loss s (now (history .entry)) (length (now (pcm .entry))) .verdict)
-        × (r .state ≡ loss s (now (history .entry)) (length (now (pcm .entry))) .state)
-        × (now (history .exit) ≡ loss s (now (history .entry)) (length (now (pcm .entry))) .history)
-        × (now (pcm .exit) ≡ front (loss s (now (history .entry)) (length (now (pcm .entry))) .pcm) (now (pcm .entry)) (length (loss s (now (history .entry)) (length (now (pcm .entry))) .pcm))) ⌝ }
+    ensures { λ r. ⌜ outcomeOf r (now (pcm .exit)) (now (history .exit))
+        ≡ inBuffer (now (pcm .entry)) (loss s (now (history .entry)) (length (now (pcm .entry)))) ⌝ }
 {
-    let number = checks::first_refusal(s, history.len(), pcm.len());
-    if number != 0 {
+    let number = first_refusal(s, history.len(), pcm.len());
+    if number.value() != 0 {
         return Answer {
-            verdict: checks::refused_with(number),
+            number: number,
+            kind: 0,
+            samples: 0,
             state: s,
         };
     }
-    let k = s.settings;
-    let samples = checks::needed_samples(k);
-    if noise::by_noise(s) {
-        let t = noise::noise_path(s, history);
-        let after = voice::finished(t, history, pcm);
-        return Answer {
-            verdict: Verdict::Noise(samples),
-            state: after,
-        };
+    if by_noise(s) {
+        return conceal_by_noise(s, history, pcm);
     }
-    let t = pitch::pitch_path(s, history);
-    let after = voice::finished(t, history, pcm);
-    Answer {
-        verdict: Verdict::Pitch(samples),
-        state: after,
-    }
+    conceal_by_pitch(s, history, pcm)
 }

@@ -26,8 +26,8 @@ module _ (b : List ℕ) (i : ℕ) where
   holds-false n l = lt-leb (4 * (i + n)) (length b) l
 
   -- what is written where there is room
-  pub written : (n : ℕ) (x : List ℕ) {t : Bool} {y : List ℕ} → reply t y ≡ replyIf (holds b i n) x b → 4 * (i + n) ≤ length b → y ≡ x
-  written n x e l = reply-lent (holds b i n) x b e (holds-true n l)
+  pub put-held : (n : ℕ) (x : List ℕ) {t : Bool} {y : List ℕ} → reply t y ≡ replyIf (holds b i n) x b → 4 * (i + n) ≤ length b → y ≡ x
+  put-held n x e l = reply-lent (holds b i n) x b e (holds-true n l)
 
   pub word-past : length b < 4 * (i + 1) → wordAt b i ≡ 0
   unfolding wordAt

@@ -1,9 +1,9 @@
 -- `answer::answer` meets its contract: the head and the record are the outcome's.
-use mathlib.Core.Path.{ap, ap₂, _∙_, sym, subst}
+use mathlib.Core.Path.{ap₂}
 use native.Mathlib.Omega.{arith}
 use borrow.Author.Needs.{needs}
-use Rattle.answer.specs.Answer.{outcomeOf, answered}
-use Rattle.answer.proofs.Answers.{outcome-samples, samples-most, head-is, record-is}
+use Rattle.answer.specs.Answer.{withRecord}
+use Rattle.answer.proofs.Answers.{samples-most, head-is, record-is}
 use Rattle.answer.proofs.answer.Statement.{statement}
 use Rattle.answer.proofs.answer.Tie as tie
 
@@ -31,9 +31,9 @@ slice-aggregate-write-head c = search needs
 write-head-requires : tie.Need-write-head-requires
 write-head-requires c κs =
     let start = c .before .before .before .before .before .before .before .before .before .before .before .before .before .before .before .before .before in
-    let made = c .before .before .before .before .before .before .before .before .before .before .before .conceal-record in
-    let most = samples-most (start .args .rec .now) _ (made .ensures .0) in
-    (omega (arith, made .kept .1 .1 .0), most, omega (arith, start .pre .1))
+    let call = c .before .before .before .before .before .before .before .before .before .before .before .conceal-record in
+    let most = samples-most (start .args .rec .now) (call .result) _ _ _ (call .ensures) in
+    (omega (arith, call .kept .1 .1 .0), most, omega (arith, start .pre .1))
 
 same-length : tie.Need-same-length
 same-length c = search needs
@@ -43,13 +43,15 @@ same-length-2 c = search needs
 
 returns : tie.Need-returns
 returns c =
-    let start = c .before .before .before .before .before .before .before .before .before .before .before .before .before .before .before .before .before .before .before .before in
+    let keep = c .before .before .before .before .before .before .before in
+    let value = keep .before .before .before .before in
+    let call = value .before .before .before in
+    let start = call .before .before .before .before .before .before in
     let b = start .args .rec .now in
-    let made = c .before .before .before .before .before .before .before .before .before .before .before .before .before .before .conceal-record .ensures in
-    let number = c .before .before .before .before .before .before .before .before .before .before .before .value .ensures in
-    let head = head-is (outcomeOf b) (outcome-samples b .0) _ _ _ _ _ (start .args .head .now) (made .0) (made .3) number (c .before .before .write-head .ensures) in
-    let record-left = record-is b _ _ _ _ _ (made .0) (made .1) (made .2) number (c .before .before .before .before .before .before .before .keep-record .ensures) in
-    ap₂ answered head record-left
+    let made = call .conceal-record .ensures in
+    let number = value .value .ensures in
+    let head = head-is b (call .conceal-record .result) _ _ _ made _ (start .args .head .now) _ number (c .before .before .write-head .ensures) in
+    ap₂ withRecord head (record-is b (call .conceal-record .result) _ _ _ made _ _ number (keep .keep-record .ensures))
 
 pub answer-spec : {M : Type 1} → statement M
 answer-spec =

@@ -1,7 +1,7 @@
 -- `answer::answer_tail` meets its contract: nothing for nothing, three words for a cut record.
 use native.Mathlib.Omega.{arith}
 use borrow.Author.Needs.{needs}
-use Rattle.words.proofs.Laws.{written}
+use Rattle.words.proofs.Laws.{put-held}
 use Rattle.answer.proofs.Answers.{tail-no-room, tail-none, tail-cut}
 use Rattle.answer.proofs.answer_tail.Statement.{statement}
 use Rattle.answer.proofs.answer_tail.Tie as tie
@@ -29,7 +29,7 @@ returns-3 : tie.Need-returns-3
 returns-3 c =
     let a = c .before .before .before .before .before .before .before .before .args in
     let room = c .before .before .before .before .before .before .if1 .left in
-    tail-cut (a .n) (a .head .now) room (c .before .before .before .before .before .if2 .left) _ (written (a .head .now) 0 3 _ (c .before .before .put-words-at .ensures) (omega arith))
+    tail-cut (a .n) (a .head .now) room (c .before .before .before .before .before .if2 .left) _ (put-held (a .head .now) 0 3 _ (c .before .before .put-words-at .ensures) (omega arith))
 
 pub answer-tail-spec : {M : Type 1} → statement M
 answer-tail-spec =

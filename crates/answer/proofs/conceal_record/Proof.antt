@@ -1,8 +1,9 @@
 -- `answer::conceal_record` meets its contract: what was read is the record's, and the call its outcome.
+use mathlib.Core.Path.{ap, _∙_}
 use lib.ListN.{length}
 use borrow.Author.Needs.{needs}
-use Rattle.answer.specs.Answer.{outcomeOf}
-use Rattle.answer.proofs.Answers.{outcome-from, call-parts}
+use Rattle.ref_decode.specs.Loss.{inBuffer}
+use Rattle.answer.proofs.Answers.{outcome-from}
 use Rattle.answer.proofs.conceal_record.Statement.{statement}
 use Rattle.answer.proofs.conceal_record.Tie as tie
 
@@ -29,7 +30,7 @@ returns c =
     let a = start .args in
     let state = read .before .before .read-state .ensures in
     let made = outcome-from (a .rec .now) _ _ (length (a .history .now)) (length (a .pcm .now)) state (read .floats-at .ensures) (start .pre .0) (start .pre .1) in
-    call-parts (call .result) _ _ (a .pcm .now) _ _ (outcomeOf (a .rec .now)) (call .ensures) made
+    call .ensures ∙ ap (inBuffer (a .pcm .now)) made
 
 pub conceal-record-spec : {M : Type 1} → statement M
 conceal-record-spec =

@@ -4,7 +4,7 @@ use native.Mathlib.Omega.{arith}
 use lib.ListN.{length, take}
 use lib.Seq.{length-take-le}
 use borrow.Author.Needs.{needs}
-use Rattle.words.proofs.Laws.{written}
+use Rattle.words.proofs.Laws.{put-held}
 use Rattle.answer.proofs.Answers.{head-parts}
 use Rattle.answer.proofs.write_head.Statement.{statement}
 use Rattle.answer.proofs.write_head.Tie as tie
@@ -42,8 +42,8 @@ returns c =
     let words = c .before .before .before .before .before .before .before .put-words-at in
     let xs = take (a .samples) (a .pcm .now) in
     let l = length-take-le (a .samples) (a .pcm .now) (start .pre .0) in
-    let first = written (a .head .now) 0 3 _ (words .ensures) (omega (arith, start .pre .2)) in
-    let second = written _ 3 (length xs) _ (c .before .before .put-floats-at .ensures) (omega (arith, start .pre .1, start .pre .2, words .kept .0)) in
+    let first = put-held (a .head .now) 0 3 _ (words .ensures) (omega (arith, start .pre .2)) in
+    let second = put-held _ 3 (length xs) _ (c .before .before .put-floats-at .ensures) (omega (arith, start .pre .1, start .pre .2, words .kept .0)) in
     head-parts (a .number) (a .kind) (a .samples) (a .samples) xs (a .head .now) _ _ l first second
 
 pub write-head-spec : {M : Type 1} → statement M

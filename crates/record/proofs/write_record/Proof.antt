@@ -8,7 +8,7 @@ use Rattle.record.specs.Record.{stateBytes, recordLength}
 use Rattle.history.specs.History.{whole}
 use Rattle.record.proofs.Parts.{record-parts, length-state, is-writable, not-a-record, not-a-history}
 use Rattle.loops.specs.Reply.{reply-yes, reply-no}
-use Rattle.words.proofs.Laws.{written}
+use Rattle.words.proofs.Laws.{put-held}
 use Rattle.record.proofs.write_record.Statement.{statement}
 use Rattle.record.proofs.write_record.Tie as tie
 
@@ -39,7 +39,7 @@ returns-3 c =
     let bytes : length (a .b .now) ≡ recordLength = c .before .before .before .before .before .before .before .before .before .if1 .left in
     let samples : n ≡ whole = c .before .before .before .before .before .before .before .before .if2 .left in
     let first = c .before .before .before .before .before .before .write-state in
-    let last = written _ 161 n _ (c .before .before .put-floats-at .ensures) (omega (arith, first .kept .0)) in
+    let last = put-held _ 161 n _ (c .before .before .put-floats-at .ensures) (omega (arith, first .kept .0)) in
     reply-yes _ _ _ (is-writable (a .b .now) (a .history .now) bytes samples)
     (record-parts (a .s) (a .history .now) (4 * n) (a .b .now) _ _ (first .ensures) last (state-length start) (omega arith))
 

@@ -3,7 +3,7 @@ use mathlib.Core.Path.{_≡_}
 use native.Mathlib.Omega.{arith}
 use lib.ListN.{length}
 use borrow.Author.Needs.{needs}
-use Rattle.words.proofs.Laws.{written}
+use Rattle.words.proofs.Laws.{put-held}
 use Rattle.record.proofs.Parts.{state-parts}
 use Rattle.record.proofs.write_state.Statement.{statement}
 use Rattle.record.proofs.write_state.Tie as tie
@@ -39,7 +39,7 @@ returns c =
     let words = energies .before .before .before .before .before .before in
     let start = words .before .before .before .before .before in
     let head = words .before .before .before .head-words in
-    let first = written (start .args .b .now) 0 (length (head .result)) _ (words .put-words-at .ensures) (omega (arith, start .pre)) in
+    let first = put-held (start .args .b .now) 0 (length (head .result)) _ (words .put-words-at .ensures) (omega (arith, start .pre)) in
     state-parts (start .args .s) _ (start .args .b .now) _ _ _ (head .ensures) first (energies .put-energies .ensures)
     (c .before .before .put-memories .ensures) (coarse-length start) (background-length start)
 

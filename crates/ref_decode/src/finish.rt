@@ -1,0 +1,64 @@
+// The end of either path: de-emphasis, and the state after it.
+ghost use mathlib.Core.Path.{_≡_};
+ghost use Prim.Native.Nat.{_≤_};
+ghost use lib.ListN.{length};
+ghost use Rattle.history.specs.History.{whole};
+ghost use Rattle.state.specs.Settings.{checkSettings, needed};
+ghost use Rattle.state.specs.Refusal.{refusal};
+ghost use Rattle.deemphasis.specs.Deemphasis.{sound};
+ghost use Rattle.ref_decode.specs.Loss.{frameSound, finish, outcomeOf, inBuffer, soundIn};
+use crate::Made;
+use deemphasis::deemphasis_mono;
+use deemphasis::deemphasis_stereo;
+use state::Answer;
+use state::Number;
+use state::Settings;
+use state::State;
+use state::sizes::frame_size;
+use state::sizes::needed_samples;
+
+// The newest N samples of each used channel as PCM; the memories after it.
+fn deemphasise(k: Settings, history: &[f32], memories: [f32; 2], pcm: &mut [f32]) -> [f32; 2]
+    requires { ⌜ (checkSettings k ≡ 0) × (length (now history) ≡ whole) × (needed k ≤ length (now pcm)) ⌝ }
+    ensures { λ r. ⌜ sound (now (pcm .exit)) r ≡ soundIn (now (pcm .entry)) (frameSound k memories (now (history .entry))) ⌝ }
+{
+    let n = frame_size(k.lm);
+    let d = k.downsample as usize;
+    let end = history::SAMPLES;
+    let a = end - n;
+    if k.channels == 2 {
+        let last = history::CHANNEL + history::SAMPLES;
+        let b = last - n;
+        let both = deemphasis_stereo(&history[a..end], &history[b..last], memories, d, pcm);
+        return both.memories;
+    }
+    let one = deemphasis_mono(&history[a..end], memories, d, pcm);
+    one.memories
+}
+
+// From what a path made and the history that it left.
+pub(crate) fn finish(s: State, made: Made, history: &[f32], pcm: &mut [f32]) -> Answer
+    requires { ⌜ refusal s (length (now history)) (length (now pcm)) ≡ 0 ⌝ }
+    ensures { λ r. ⌜ outcomeOf r (now (pcm .exit)) (now (history .entry)) ≡ inBuffer (now (pcm .entry)) (finish s made (now (history .entry))) ⌝ }
+{
+    let k = s.settings;
+    let before = s.memories;
+    let memories = deemphasise(k, history, before, pcm);
+    let count = s.loss_count + 1;
+    let samples = needed_samples(k);
+    let coarse = made.coarse;
+    let predictor = made.predictor;
+    let mut after = s;
+    after.loss_count = count;
+    after.seed = made.seed;
+    after.lag = made.lag;
+    after.coarse = coarse;
+    after.memories = memories;
+    after.predictor = predictor;
+    Answer {
+        number: Number::Accepted,
+        kind: made.kind,
+        samples: samples,
+        state: after,
+    }
+}
