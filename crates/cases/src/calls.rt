@@ -1,41 +1,37 @@
 // Calls on lent buffers, and their answers as words.
-use crate::words;
+use crate::streams;
 use float_bits::words::f32_to_word;
 use float_bits::words::wrapping_mul_u32;
 use ref_decode::decode_lost;
-use state::Answer;
 use state::Number;
 use state::State;
 
-// One call, lent the first p samples of a PCM buffer, each 1 before it.
-fn call(s: State, history: &mut [f32], pcm: &mut [f32], p: usize) -> Answer {
-    let n = words::at_most(p, pcm.len());
+// Number, kind and sample count.
+fn write_report(number: Number, kind: u32, samples: usize) {
+    streams::write_word(number.value());
+    streams::write_word(kind);
+    streams::write_number(samples);
+}
+
+// One call, its report written, and the state after it; lent the first p samples of a PCM buffer, each 1 before it.
+fn call(s: State, history: &mut [f32], pcm: &mut [f32], p: usize) -> State {
+    let n = streams::at_most(p, pcm.len());
     buffers::fill(&mut pcm[..n], 1.0);
-    decode_lost(s, history, &mut pcm[..n])
+    let a = decode_lost(s, history, &mut pcm[..n]);
+    let number = a.number;
+    write_report(number, a.kind, a.samples);
+    a.state
 }
 
 // The same, lent the first n samples of a history.
-pub(crate) fn call_front(
-    s: State,
-    history: &mut [f32],
-    n: usize,
-    pcm: &mut [f32],
-    p: usize,
-) -> Answer {
-    let m = words::at_most(n, history.len());
-    call(s, &mut history[..m], pcm, p)
-}
-
-// Number, kind and sample count.
-pub(crate) fn write_report(number: Number, kind: u32, samples: usize) -> bool {
-    words::write_word(number.value());
-    words::write_word(kind);
-    words::write_number(samples)
+pub(crate) fn call_front(s: State, history: &mut [f32], n: u32, pcm: &mut [f32], p: u32) -> State {
+    let end = streams::at_most(n as usize, history.len());
+    call(s, &mut history[..end], pcm, p as usize)
 }
 
 // The first p samples of a buffer in one word.
 fn digest(x: &[f32], p: usize) -> u32 {
-    let n = words::at_most(p, x.len());
+    let n = streams::at_most(p, x.len());
     let mut h = 1u32;
     for i in 0..n {
         let m = wrapping_mul_u32(h, 1664525);
@@ -44,14 +40,12 @@ fn digest(x: &[f32], p: usize) -> u32 {
     h
 }
 
-// One call of a run, and its answer written.
+// One call of a run.
 fn turn(s: State, history: &mut [f32], pcm: &mut [f32], length: u32) -> State {
     let p = length as usize;
-    let a = call(s, history, pcm, p);
-    let number = a.number;
-    write_report(number, a.kind, a.samples);
-    words::write_word(digest(pcm, p));
-    a.state
+    let t = call(s, history, pcm, p);
+    streams::write_word(digest(pcm, p));
+    t
 }
 
 // The first n calls with these PCM lengths, each on what the one before left.
@@ -62,7 +56,7 @@ pub(crate) fn run(
     lengths: &[u32],
     n: usize,
 ) -> State {
-    let m = words::at_most(n, lengths.len());
+    let m = streams::at_most(n, lengths.len());
     let mut t = s;
     for i in 0..m {
         t = turn(t, history, pcm, lengths[i]);
@@ -74,6 +68,6 @@ pub(crate) fn run(
 pub(crate) fn write_unused(n: usize, m: usize) {
     let none = [0u32; 4];
     for i in n..m {
-        words::write_words(&none);
+        streams::write_words(&none);
     }
 }

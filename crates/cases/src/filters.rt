@@ -1,5 +1,5 @@
 // Ops 201 to 208: sums over a signal, the predictor, the two filters.
-use crate::words;
+use crate::streams;
 use plc::autocorr;
 use plc::lpc;
 use plc_filter::fir;
@@ -7,33 +7,33 @@ use plc_filter::iir;
 
 fn answer_autocorr() -> bool {
     let mut x = [0.0f32; 1024];
-    if !words::read_floats(&mut x) {
+    if !streams::read_floats(&mut x) {
         return false;
     }
     let ac = autocorr::celt_autocorr(&x);
-    words::write_floats(&ac)
+    streams::write_floats(&ac)
 }
 
 fn answer_windowed() -> bool {
     let mut x = [0.0f32; 1024];
-    words::read_floats(&mut x);
+    streams::read_floats(&mut x);
     let mut window = [0.0f32; 120];
-    if !words::read_floats(&mut window) {
+    if !streams::read_floats(&mut window) {
         return false;
     }
     let ac = autocorr::celt_autocorr_windowed(&x, &window);
-    words::write_floats(&ac)
+    streams::write_floats(&ac)
 }
 
 fn answer_lpc(ac: &mut [f32], coefficients: &mut [f32]) -> bool {
-    if !words::read_floats(ac) {
+    if !streams::read_floats(ac) {
         return false;
     }
     let solved = lpc::celt_lpc(coefficients, ac);
     if !solved.taken {
         return false;
     }
-    words::write_floats(coefficients)
+    streams::write_floats(coefficients)
 }
 
 fn answer_lpc_24() -> bool {
@@ -50,15 +50,15 @@ fn answer_lpc_4() -> bool {
 
 fn answer_fir(num: &mut [f32], mem: &mut [f32]) -> bool {
     let mut x = [0.0f32; 1024];
-    words::read_floats(&mut x);
-    words::read_floats(num);
-    if !words::read_floats(mem) {
+    streams::read_floats(&mut x);
+    streams::read_floats(num);
+    if !streams::read_floats(mem) {
         return false;
     }
     if !fir::celt_fir_inplace(&mut x, num, mem) {
         return false;
     }
-    words::write_floats(&x)
+    streams::write_floats(&x)
 }
 
 fn answer_fir_24() -> bool {
@@ -81,24 +81,24 @@ fn answer_fir_1() -> bool {
 
 // Filters the first n samples; the rest stays.
 fn filter_front(x: &mut [f32], n: usize, den: &[f32; 24], mem: &[f32; 24]) -> bool {
-    let end = words::at_most(n, x.len());
+    let end = streams::at_most(n, x.len());
     iir::celt_iir_inplace(&mut x[..end], den, mem)
 }
 
 fn answer_iir() -> bool {
-    let n = words::read_word();
+    let n = streams::read_word();
     let mut x = [0.0f32; 1200];
-    words::read_floats(&mut x);
+    streams::read_floats(&mut x);
     let mut den = [0.0f32; 24];
-    words::read_floats(&mut den);
+    streams::read_floats(&mut den);
     let mut mem = [0.0f32; 24];
-    if !words::read_floats(&mut mem) {
+    if !streams::read_floats(&mut mem) {
         return false;
     }
     if !filter_front(&mut x, n.value as usize, &den, &mem) {
         return false;
     }
-    words::write_floats(&x)
+    streams::write_floats(&x)
 }
 
 pub(crate) fn answer(op: u32) -> bool {

@@ -1,5 +1,5 @@
 // Ops 101 to 108: the float helpers.
-use crate::words;
+use crate::streams;
 use float_bits::extremes;
 use float_bits::formats;
 use float_bits::root;
@@ -10,10 +10,10 @@ use float_bits::words::wrapping_mul_u32;
 fn answer_one(op: u32, x: u32) -> bool {
     let v = f32_from_word(x);
     match op {
-        103 => words::write_float(root::sqrt_f32(v)),
-        105 => words::write_double(formats::f32_to_f64(v)),
-        106 => words::write_float(v),
-        107 => words::write_float(noise_value(x)),
+        103 => streams::write_float(root::sqrt_f32(v)),
+        105 => streams::write_double(formats::f32_to_f64(v)),
+        106 => streams::write_float(v),
+        107 => streams::write_float(noise_value(x)),
         _ => false,
     }
 }
@@ -29,23 +29,23 @@ fn double(low: u32, high: u32) -> f64 {
 
 fn answer_two(op: u32, x: u32, y: u32) -> bool {
     match op {
-        101 => words::write_float(extremes::min_f32(f32_from_word(x), f32_from_word(y))),
-        102 => words::write_float(extremes::max_f32(f32_from_word(x), f32_from_word(y))),
-        104 => words::write_float(formats::f64_to_f32(double(x, y))),
-        108 => words::write_word(wrapping_mul_u32(x, y)),
+        101 => streams::write_float(extremes::min_f32(f32_from_word(x), f32_from_word(y))),
+        102 => streams::write_float(extremes::max_f32(f32_from_word(x), f32_from_word(y))),
+        104 => streams::write_float(formats::f64_to_f32(double(x, y))),
+        108 => streams::write_word(wrapping_mul_u32(x, y)),
         _ => false,
     }
 }
 
 pub(crate) fn answer(op: u32) -> bool {
-    let x = words::read_word();
+    let x = streams::read_word();
     if !x.whole {
         return false;
     }
     match op {
         103 | 105 | 106 | 107 => answer_one(op, x.value),
         _ => {
-            let y = words::read_word();
+            let y = streams::read_word();
             if !y.whole {
                 return false;
             }

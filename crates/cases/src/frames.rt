@@ -1,5 +1,5 @@
 // Op 701: the de-emphasis of one frame.
-use crate::words;
+use crate::streams;
 use deemphasis::Deemphasised;
 use deemphasis::deemphasis_mono;
 use deemphasis::deemphasis_stereo;
@@ -13,7 +13,7 @@ fn mono(
     downsample: usize,
     pcm: &mut [f32],
 ) -> Deemphasised {
-    let end = words::at_most(n, v.len());
+    let end = streams::at_most(n, v.len());
     deemphasis_mono(&v[..end], memories, downsample, pcm)
 }
 
@@ -26,8 +26,8 @@ fn stereo(
     downsample: usize,
     pcm: &mut [f32],
 ) -> Deemphasised {
-    let first = words::at_most(n, v.len());
-    let second = words::at_most(n, w.len());
+    let first = streams::at_most(n, v.len());
+    let second = streams::at_most(n, w.len());
     deemphasis_stereo(&v[..first], &w[..second], memories, downsample, pcm)
 }
 
@@ -41,25 +41,33 @@ fn sound(k: [u32; 3], v: &[f32], w: &[f32], memories: [f32; 2], pcm: &mut [f32])
     mono(v, n, memories, downsample, pcm)
 }
 
+// A cut case is refused too.
+fn read_sound(k: [u32; 3], memories: [f32; 2], pcm: &mut [f32]) -> Deemphasised {
+    let mut v = [0.0f32; 960];
+    streams::read_floats(&mut v);
+    let mut w = [0.0f32; 960];
+    if streams::read_floats(&mut w) {
+        return sound(k, &v, &w, memories, pcm);
+    }
+    Deemphasised {
+        taken: false,
+        memories: memories,
+    }
+}
+
 fn answer_frame() -> bool {
     let mut k = [0u32; 3];
-    words::read_words(&mut k);
+    streams::read_words(&mut k);
     let mut memories = [0.0f32; 2];
-    words::read_floats(&mut memories);
-    let mut v = [0.0f32; 960];
-    words::read_floats(&mut v);
-    let mut w = [0.0f32; 960];
-    if !words::read_floats(&mut w) {
-        return false;
-    }
+    streams::read_floats(&mut memories);
     let mut pcm = [0.0f32; 1920];
-    let r = sound(k, &v, &w, memories, &mut pcm);
+    let r = read_sound(k, memories, &mut pcm);
     if !r.taken {
         return false;
     }
-    words::write_floats(&pcm);
+    streams::write_floats(&pcm);
     let after = r.memories;
-    words::write_floats(&after)
+    streams::write_floats(&after)
 }
 
 pub(crate) fn answer(op: u32) -> bool {

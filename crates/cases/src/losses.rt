@@ -1,62 +1,72 @@
-// Ops 1001 to 1003: whole losses and runs of them.
+// Ops 1001 to 1003: whole losses and runs of them. A state and its history come and leave as a record.
 use crate::calls;
-use crate::states;
-use crate::words;
+use crate::streams;
+use state::State;
+
+// The words of a state that op 1003 gives; all past them are 0.
+const HEAD: usize = 44;
+
+// One call on a record's state, lent the first n samples of its history.
+fn call(b: &[u8], h: &mut [f32], n: u32, pcm: &mut [f32], p: u32) -> State {
+    words::floats_at(b, record::HISTORY, h);
+    calls::call_front(record::read_state(b), h, n, pcm, p)
+}
+
+// The record after a call.
+fn write_after(b: &mut [u8], s: State, h: &[f32]) -> bool {
+    let end = streams::at_most(history::WHOLE, h.len());
+    record::write_record(b, s, &h[..end]);
+    streams::write_bytes(b)
+}
 
 fn answer_call() -> bool {
-    let p = words::read_word();
-    let n = words::read_word();
-    let s = states::read_state();
-    let mut h = [0.0f32; history::WHOLE + 1];
-    if !words::read_part(&mut h, 0, history::WHOLE) {
+    let p = streams::read_word();
+    let n = streams::read_word();
+    let mut b = [0u8; record::BYTES];
+    if !streams::read_bytes(&mut b, record::BYTES) {
         return false;
     }
+    let mut h = [0.0f32; history::WHOLE + 1];
     let mut pcm = [0.0f32; 2000];
-    let a = calls::call_front(s, &mut h, n.value as usize, &mut pcm, p.value as usize);
-    let number = a.number;
-    calls::write_report(number, a.kind, a.samples);
-    words::write_floats(&pcm);
-    states::write_state(a.state);
-    words::write_first(&h, history::WHOLE)
+    let s = call(&b, &mut h, n.value, &mut pcm, p.value);
+    streams::write_floats(&pcm);
+    write_after(&mut b, s, &h)
+}
+
+// A run of n calls on a record's state and history, and the record after it.
+fn run(b: &mut [u8], lengths: &[u32], n: usize) -> bool {
+    let mut h = [0.0f32; history::WHOLE];
+    words::floats_at(b, record::HISTORY, &mut h);
+    let mut pcm = [0.0f32; 2000];
+    let s = calls::run(record::read_state(b), &mut h, &mut pcm, lengths, n);
+    calls::write_unused(n, 16);
+    write_after(b, s, &h)
 }
 
 fn answer_run() -> bool {
-    let n = words::read_word();
+    let n = streams::read_word();
     let mut lengths = [0u32; 16];
-    words::read_words(&mut lengths);
-    let s = states::read_state();
-    let mut h = [0.0f32; history::WHOLE];
-    if !words::read_floats(&mut h) {
+    streams::read_words(&mut lengths);
+    let mut b = [0u8; record::BYTES];
+    if !streams::read_bytes(&mut b, record::BYTES) {
         return false;
     }
-    let mut pcm = [0.0f32; 2000];
-    let t = calls::run(s, &mut h, &mut pcm, &lengths, n.value as usize);
-    calls::write_unused(n.value as usize, 16);
-    states::write_state(t);
-    words::write_floats(&h)
+    run(&mut b, &lengths, n.value as usize)
 }
 
 fn answer_silent() -> bool {
-    let p = words::read_word();
-    let n = words::read_word();
-    let mut w = [0u32; 11];
-    if !words::read_words(&mut w) {
+    let p = streams::read_word();
+    let n = streams::read_word();
+    let mut b = [0u8; record::BYTES];
+    if !streams::read_bytes(&mut b, HEAD) {
         return false;
     }
     let mut h = [0.0f32; history::WHOLE + 1];
     let mut pcm = [0.0f32; 2000];
-    let a = calls::call_front(
-        states::head_of(w),
-        &mut h,
-        n.value as usize,
-        &mut pcm,
-        p.value as usize,
-    );
-    let number = a.number;
-    calls::write_report(number, a.kind, a.samples);
-    let s = a.state;
-    let after = [s.loss_count, s.seed, s.lag];
-    words::write_words(&after)
+    let s = call(&b, &mut h, n.value, &mut pcm, p.value);
+    streams::write_word(s.loss_count);
+    streams::write_word(s.seed);
+    streams::write_word(s.lag)
 }
 
 pub(crate) fn answer(op: u32) -> bool {

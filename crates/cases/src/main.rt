@@ -11,13 +11,12 @@ mod modes;
 mod noise;
 mod pitch;
 mod search;
-mod states;
+mod streams;
 mod transform;
-mod words;
 
 // One case; false where there is no more to answer.
 fn answer() -> bool {
-    let op = words::read_word();
+    let op = streams::read_word();
     if !op.whole {
         return false;
     }

@@ -1,5 +1,5 @@
 // Ops 901 to 903: steps of the noise path.
-use crate::words;
+use crate::streams;
 use noise_block::Drawn;
 use noise_block::noise_block;
 use noise_loss::energies;
@@ -27,52 +27,55 @@ fn block_size(lm: u32) -> usize {
     }
 }
 
-// The first n samples of the block.
-fn draw(k: Settings, seed: u32, block: &mut [f32], n: usize, e: &[f32]) -> Drawn {
-    let end = words::at_most(n, block.len());
+// The block's samples in the front of a buffer.
+fn draw(w: [u32; 5], block: &mut [f32], e: &[f32]) -> Drawn {
+    let end = streams::at_most(block_size(w[0]), block.len());
     noise_block(
         &mut block[..end],
-        k.lm as usize,
-        k.start as usize,
-        k.end as usize,
-        k.downsample as usize,
-        seed,
+        w[0] as usize,
+        w[1] as usize,
+        w[2] as usize,
+        w[3] as usize,
+        w[4],
         e,
     )
 }
 
 fn answer_block() -> bool {
     let mut w = [0u32; 5];
-    words::read_words(&mut w);
+    streams::read_words(&mut w);
     let mut e = [0.0f32; 25];
-    if !words::read_floats(&mut e) {
+    if !streams::read_floats(&mut e) {
         return false;
     }
     let mut block = [0.0f32; 1080];
-    let n = block_size(w[0]);
-    let drawn = draw(mono(w), w[4], &mut block, n, &e);
+    let drawn = draw(w, &mut block, &e);
     if !drawn.taken {
         return false;
     }
-    words::write_floats(&block);
-    words::write_word(drawn.seed)
+    streams::write_floats(&block);
+    streams::write_word(drawn.seed)
+}
+
+fn lay(w: [u32; 5], history: &mut [f32], e: [f32; 50]) -> Drawn {
+    noise_loss(mono(w), history, w[4], e)
 }
 
 fn answer_channel() -> bool {
     let mut w = [0u32; 5];
-    words::read_words(&mut w);
+    streams::read_words(&mut w);
     let mut e = [0.0f32; 50];
-    words::read_part(&mut e, 0, 25);
+    streams::read_part(&mut e, 0, 25);
     let mut h = [0.0f32; history::WHOLE];
-    if !words::read_part(&mut h, 0, history::CHANNEL) {
+    if !streams::read_part(&mut h, 0, history::CHANNEL) {
         return false;
     }
-    let drawn = noise_loss(mono(w), &mut h, w[4], e);
+    let drawn = lay(w, &mut h, e);
     if !drawn.taken {
         return false;
     }
-    words::write_first(&h, history::CHANNEL);
-    words::write_word(drawn.seed)
+    streams::write_first(&h, history::CHANNEL);
+    streams::write_word(drawn.seed)
 }
 
 // Four words ahead of the energies: channels, start, end and loss count.
@@ -82,13 +85,13 @@ fn lowered(w: [u32; 4], coarse: [f32; 50]) -> [f32; 50] {
 
 fn answer_energies() -> bool {
     let mut w = [0u32; 4];
-    words::read_words(&mut w);
+    streams::read_words(&mut w);
     let mut coarse = [0.0f32; 50];
-    if !words::read_floats(&mut coarse) {
+    if !streams::read_floats(&mut coarse) {
         return false;
     }
     let after = lowered(w, coarse);
-    words::write_floats(&after)
+    streams::write_floats(&after)
 }
 
 pub(crate) fn answer(op: u32) -> bool {

@@ -1,8 +1,8 @@
 // Op 801: one channel's pitch loss.
-use crate::words;
+use crate::streams;
 use float_bits::words::f32_from_word;
-use pitch_fit::Fitted;
 use pitch_fit::fit_predictor;
+use pitch_loss::Concealed;
 use pitch_loss::pitch_loss;
 use post_filter::Filter;
 use state::Settings;
@@ -28,43 +28,35 @@ fn mono(lm: u32) -> Settings {
 }
 
 // A first loss fits its predictor from the history; a later one goes by what it was given.
-fn fitted(first: bool, history: &[f32], predictor: [f32; 48]) -> Fitted {
-    if first {
-        return fit_predictor(false, history, predictor);
+fn fitted(w: [u32; 6], history: &[f32], predictor: [f32; 48]) -> [f32; 48] {
+    if w[1] == 1 {
+        let fit = fit_predictor(false, history, predictor);
+        return fit.predictor;
     }
-    Fitted {
-        taken: true,
-        predictor: predictor,
-    }
+    predictor
 }
 
-fn concealed(w: [u32; 6], history: &mut [f32], predictor: [f32; 48]) -> Fitted {
-    let first = w[1] == 1;
-    let fit = fitted(first, history, predictor);
-    let p = fit.predictor;
-    let r = pitch_loss(mono(w[0]), history, w[2], first, p, filter_of(w));
-    Fitted {
-        taken: r.taken,
-        predictor: p,
-    }
+fn concealed(w: [u32; 6], history: &mut [f32], predictor: [f32; 48]) -> Concealed {
+    let f = filter_of(w);
+    pitch_loss(mono(w[0]), history, w[2], w[1] == 1, predictor, f)
 }
 
 fn answer_loss() -> bool {
     let mut w = [0u32; 6];
-    words::read_words(&mut w);
+    streams::read_words(&mut w);
     let mut predictor = [0.0f32; 48];
-    words::read_part(&mut predictor, 0, 24);
+    streams::read_part(&mut predictor, 0, 24);
     let mut h = [0.0f32; history::WHOLE];
-    if !words::read_part(&mut h, 0, history::CHANNEL) {
+    if !streams::read_part(&mut h, 0, history::CHANNEL) {
         return false;
     }
-    let r = concealed(w, &mut h, predictor);
+    let after = fitted(w, &h, predictor);
+    let r = concealed(w, &mut h, after);
     if !r.taken {
         return false;
     }
-    words::write_first(&h, history::CHANNEL);
-    let after = r.predictor;
-    words::write_first(&after, 24)
+    streams::write_first(&h, history::CHANNEL);
+    streams::write_first(&after, 24)
 }
 
 pub(crate) fn answer(op: u32) -> bool {

@@ -1,5 +1,5 @@
 // Ops 301 to 307: the downsampling and the lag search.
-use crate::words;
+use crate::streams;
 use pitch_fit::find_lag;
 use plc_downsample::pitch_downsample;
 use plc_downsample::pitch_downsample_pair;
@@ -9,7 +9,7 @@ use plc_search::search::pitch_search;
 
 fn answer_mono() -> bool {
     let mut x = [0.0f32; 2048];
-    if !words::read_floats(&mut x) {
+    if !streams::read_floats(&mut x) {
         return false;
     }
     let mut out = [0.0f32; 1024];
@@ -17,14 +17,14 @@ fn answer_mono() -> bool {
     if !r.taken {
         return false;
     }
-    words::write_floats(&out)
+    streams::write_floats(&out)
 }
 
 fn answer_pair() -> bool {
     let mut x0 = [0.0f32; 2048];
-    words::read_floats(&mut x0);
+    streams::read_floats(&mut x0);
     let mut x1 = [0.0f32; 2048];
-    if !words::read_floats(&mut x1) {
+    if !streams::read_floats(&mut x1) {
         return false;
     }
     let mut out = [0.0f32; 1024];
@@ -32,14 +32,14 @@ fn answer_pair() -> bool {
     if !r.taken {
         return false;
     }
-    words::write_floats(&out)
+    streams::write_floats(&out)
 }
 
 fn write_pitches(p: Pitches) -> bool {
     match p {
         Pitches::Pair(a, b) => {
-            words::write_number(a);
-            words::write_number(b)
+            streams::write_number(a);
+            streams::write_number(b)
         }
         Pitches::Refused => false,
     }
@@ -47,9 +47,9 @@ fn write_pitches(p: Pitches) -> bool {
 
 fn answer_best_coarse() -> bool {
     let mut xcorr = [0.0f32; 155];
-    words::read_floats(&mut xcorr);
+    streams::read_floats(&mut xcorr);
     let mut y = [0.0f32; 487];
-    if !words::read_floats(&mut y) {
+    if !streams::read_floats(&mut y) {
         return false;
     }
     write_pitches(find_best_pitch(&xcorr, &y, 332, 155))
@@ -57,9 +57,9 @@ fn answer_best_coarse() -> bool {
 
 fn answer_best_fine() -> bool {
     let mut xcorr = [0.0f32; 310];
-    words::read_floats(&mut xcorr);
+    streams::read_floats(&mut xcorr);
     let mut y = [0.0f32; 1024];
-    if !words::read_floats(&mut y) {
+    if !streams::read_floats(&mut y) {
         return false;
     }
     write_pitches(find_best_pitch(&xcorr, &y, 664, 310))
@@ -67,23 +67,23 @@ fn answer_best_fine() -> bool {
 
 fn answer_search() -> bool {
     let mut y = [0.0f32; 1024];
-    if !words::read_floats(&mut y) {
+    if !streams::read_floats(&mut y) {
         return false;
     }
-    words::write_number(pitch_search(&y))
+    streams::write_number(pitch_search(&y))
 }
 
 // The samples of each used channel, without its overlap.
 fn read_samples(two: bool, history: &mut [f32]) -> bool {
     if two {
-        words::read_part(history, 0, history::SAMPLES);
-        return words::read_part(
+        streams::read_part(history, 0, history::SAMPLES);
+        return streams::read_part(
             history,
             history::CHANNEL,
             history::CHANNEL + history::SAMPLES,
         );
     }
-    words::read_part(history, 0, history::SAMPLES)
+    streams::read_part(history, 0, history::SAMPLES)
 }
 
 fn answer_lag(two: bool) -> bool {
@@ -92,7 +92,7 @@ fn answer_lag(two: bool) -> bool {
         return false;
     }
     let found = find_lag(two, &h);
-    words::write_word(found.lag)
+    streams::write_word(found.lag)
 }
 
 pub(crate) fn answer(op: u32) -> bool {

@@ -25,6 +25,9 @@ slice-aggregate-decode-lost c = sym (length-take-le _ _ (search needs))
 decode-lost-requires : tie.Need-decode-lost-requires
 decode-lost-requires c κs = search needs
 
+write-report-requires : tie.Need-write-report-requires
+write-report-requires c κs = search needs
+
 same-length : tie.Need-same-length
 same-length c = search needs
 
@@ -45,6 +48,7 @@ call-spec =
     slice-relend-prefix-decode-lost
     slice-aggregate-decode-lost
     decode-lost-requires
+    write-report-requires
     same-length
     same-length-2
     returns)

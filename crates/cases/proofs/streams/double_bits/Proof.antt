@@ -2,8 +2,8 @@ use mathlib.Core.Path.{sym, subst}
 use mathlib.Core.Bool.{Bool, not}
 use lib.Dec.{T}
 use Rattle.loops.specs.Nan.{nan-false}
-use Rattle.cases.proofs.words.double_bits.Statement.{statement}
-use Rattle.cases.proofs.words.double_bits.Tie as tie
+use Rattle.cases.proofs.streams.double_bits.Statement.{statement}
+use Rattle.cases.proofs.streams.double_bits.Tie as tie
 
 returns : tie.Need-returns
 returns c = tt

@@ -1,7 +1,7 @@
 use Prim.Native.Nat.{_≤_, _-_}
 use borrow.Author.Needs.{needs}
-use Rattle.cases.proofs.words.write_words.Statement.{statement}
-use Rattle.cases.proofs.words.write_words.Tie as tie
+use Rattle.cases.proofs.streams.write_floats.Statement.{statement}
+use Rattle.cases.proofs.streams.write_floats.Tie as tie
 
 abbrev Inv-loop : tie.InvT-loop
 Inv-loop x n i₀ i = i ≤ n
@@ -12,14 +12,14 @@ abbrev μ-loop : tie.MeasureT-loop
 loop-holds : tie.Need-loop-holds Inv-loop μ-loop
 loop-holds c = search needs
 
-mul-write-word : tie.Need-mul-write-word Inv-loop μ-loop
-mul-write-word c = search needs
+mul-write-float : tie.Need-mul-write-float Inv-loop μ-loop
+mul-write-float c = search needs
 
-shared-slice-read-write-word : tie.Need-shared-slice-read-write-word Inv-loop μ-loop
-shared-slice-read-write-word c = search needs
+shared-slice-read-write-float : tie.Need-shared-slice-read-write-float Inv-loop μ-loop
+shared-slice-read-write-float c = search needs
 
-write-word-requires : tie.Need-write-word-requires Inv-loop μ-loop
-write-word-requires c κs = search needs
+write-float-requires : tie.Need-write-float-requires Inv-loop μ-loop
+write-float-requires c κs = search needs
 
 returns : tie.Need-returns Inv-loop μ-loop
 returns c = search needs
@@ -36,16 +36,16 @@ loop-again c = search needs
 returns-2 : tie.Need-returns-2 Inv-loop μ-loop
 returns-2 c = search needs
 
-pub write-words-spec : {M : Type 1} → statement M
-write-words-spec =
+pub write-floats-spec : {M : Type 1} → statement M
+write-floats-spec =
     tie.close
     (tie.spec
     Inv-loop
     μ-loop
     loop-holds
-    mul-write-word
-    shared-slice-read-write-word
-    write-word-requires
+    mul-write-float
+    shared-slice-read-write-float
+    write-float-requires
     returns
     add-i
     loop-less

@@ -1,8 +1,8 @@
 use mathlib.Core.Path.{sym}
 use lib.Seq.{length-take-le}
 use borrow.Author.Needs.{needs}
-use Rattle.cases.proofs.words.write_first.Statement.{statement}
-use Rattle.cases.proofs.words.write_first.Tie as tie
+use Rattle.cases.proofs.streams.write_first.Statement.{statement}
+use Rattle.cases.proofs.streams.write_first.Tie as tie
 
 at-most-requires : tie.Need-at-most-requires
 at-most-requires c κs = search needs

@@ -1,8 +1,8 @@
-// Little-endian words on standard input and output. Where the input ends, or the output takes no more, what is read or
+// Words and floats on standard input and output. Where the input ends, or the output takes no more, what is read or
 // written after it ends too: of several in a row the last tells of all.
 use float_bits::words::f32_from_word;
 use float_bits::words::f32_to_word;
-ghost use Prim.Native.Nat.{_<_, _≤_};
+ghost use Prim.Native.Nat.{_≤_};
 
 // `whole` is false where the input ended first.
 pub(crate) struct Word {
@@ -10,23 +10,11 @@ pub(crate) struct Word {
     pub whole: bool,
 }
 
-fn wide(b: u8) -> u32
-    ensures { λ r. ⌜ r < 256 ⌝ }
-{
-    b as u32
-}
-
-fn word_of(b: [u8; 4]) -> u32 {
-    let low = wide(b[0]) + wide(b[1]) * 0x100;
-    let high = wide(b[2]) + wide(b[3]) * 0x100;
-    low + high * 0x1_0000
-}
-
 pub(crate) fn read_word() -> Word {
     let mut b = [0u8; 4];
     let n = io::read_full(libc::STDIN_FILENO, &mut b);
     Word {
-        value: word_of(b),
+        value: words::word_at(&b, 0),
         whole: n == 4,
     }
 }
@@ -132,4 +120,14 @@ pub(crate) fn read_part(x: &mut [f32], from: usize, to: usize) -> bool {
 pub(crate) fn write_first(x: &[f32], n: usize) -> bool {
     let end = at_most(n, x.len());
     write_floats(&x[..end])
+}
+
+// The first n bytes of b.
+pub(crate) fn read_bytes(b: &mut [u8], n: usize) -> bool {
+    let end = at_most(n, b.len());
+    io::read_full(libc::STDIN_FILENO, &mut b[..end]) == end
+}
+
+pub(crate) fn write_bytes(b: &[u8]) -> bool {
+    io::write_all(libc::STDOUT_FILENO, b)
 }
