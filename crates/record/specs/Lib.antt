@@ -1,4 +1,2 @@
--- A record's bytes as a state and its history, and back; what the concealment program writes.
-pub mod Bytes
+-- A record's bytes as a state and its history, and back.
 pub mod Record
-pub mod Answer

@@ -1,11 +1,15 @@
 -- The tent's record: 4,497 words, little-endian.
+use mathlib.Core.Bool.{Bool, _&&_}
 use mathlib.Core.List.{List, [], _∷_, _++_}
 use Prim.Native.Nat.{ℕ}
+use lib.ListN.{length}
+use lib.Dec.{eqb}
 use lib.Ieee.{Float, binary32, ofBits, toBits}
-use Rattle.pitch_loss.specs.declared.Filter.{Filter}
-use Rattle.ref_decode.specs.declared.state.Settings.{Settings}
-use Rattle.ref_decode.specs.declared.state.State.{State}
-use Rattle.record.specs.Bytes.{wordAt, floatsAt, wordsBytes, floatsBytes}
+use Rattle.history.specs.History.{whole}
+use Rattle.post_filter.specs.declared.Filter.{Filter}
+use Rattle.state.specs.declared.Settings.{Settings}
+use Rattle.state.specs.declared.State.{State}
+use Rattle.words.specs.Bytes.{wordAt, floatsAt, wordsBytes, floatsBytes}
 
 -- the first five words
 unfoldable pub settingsOf : List ℕ → Settings
@@ -28,9 +32,9 @@ stateOf b = record {
   predictor = floatsAt b 113 48;
 }
 
--- 4,336 history samples
+-- both channels' history
 unfoldable pub historyOf : List ℕ → List Float
-historyOf b = floatsAt b 161 4336
+historyOf b = floatsAt b 161 whole
 
 -- the words ahead of the energies
 unfoldable pub headWords : State → List ℕ
@@ -46,3 +50,10 @@ stateBytes s =
 -- a record's 17,988 bytes
 unfoldable pub recordOf : State → List Float → List ℕ
 recordOf s h = stateBytes s ++ floatsBytes h
+
+abbrev pub recordLength : ℕ
+recordLength = 17988
+
+-- a record can be written over b
+unfoldable pub writable : List ℕ → List Float → Bool
+writable b h = eqb (length b) recordLength && eqb (length h) whole

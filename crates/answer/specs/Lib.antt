@@ -1,0 +1,2 @@
+-- What the concealment program writes for what it reads.
+pub mod Answer

@@ -1,0 +1,103 @@
+// The answer to one record, and to what is left past the last whole one.
+ghost use mathlib.Core.Path.{_≡_};
+ghost use mathlib.Core.Bool.{cond};
+ghost use mathlib.Core.List.{[], _∷_, _++_};
+ghost use Prim.Native.Nat.{_+_, _*_, _≤_};
+ghost use lib.ListN.{length, take};
+ghost use lib.Dec.{eqb};
+ghost use Rattle.history.specs.History.{whole};
+ghost use Rattle.ref_decode.specs.Loss.{outcomeOf, inBuffer};
+ghost use Rattle.words.specs.Bytes.{wordsBytes, floatsBytes};
+ghost use Rattle.record.specs.Record.{recordLength, recordOf};
+ghost use Rattle.answer.specs.Answer.{samplesMost, headMost, lossOf, headOf, recordAfter, headed, headedBy, withRecord, answerRecord, answerTail};
+use state::Answer;
+use state::State;
+
+// The samples of the longest answer: two channels of 960.
+const SAMPLES_MOST: usize = 1_920;
+
+// The bytes of number, kind and sample count.
+const REPORT_BYTES: usize = 12;
+
+pub const HEAD_BYTES: usize = 7_692;
+
+// The number that a record cut short gets.
+const CUT_SHORT: u32 = 11;
+
+// One loss on a record's state and history.
+fn conceal_record(rec: &[u8], history: &mut [f32], pcm: &mut [f32]) -> Answer
+    requires { ⌜ (length (now history) ≡ whole) × (length (now pcm) ≡ samplesMost) ⌝ }
+    ensures { λ r. ⌜ outcomeOf r (now (pcm .exit)) (now (history .exit)) ≡ inBuffer (now (pcm .entry)) (lossOf (now (rec .entry))) ⌝ }
+{
+    let s = record::read_state(rec);
+    words::floats_at(rec, record::HISTORY, history);
+    ref_decode::decode_lost(s, history, pcm)
+}
+
+// A record whose loss was accepted is written anew; a refused one stays as it was read.
+fn keep_record(rec: &mut [u8], number: u32, s: State, history: &[f32])
+    requires { ⌜ (length (now rec) ≡ recordLength) × (length (now history) ≡ whole) ⌝ }
+    ensures { λ _. ⌜ now (rec .exit) ≡ cond (eqb number 0) (recordOf s (now (history .entry))) (now (rec .entry)) ⌝ }
+{
+    if number == 0 {
+        record::write_record(rec, s, history);
+    }
+}
+
+// Number, kind and sample count, and then the samples.
+fn write_head(head: &mut [u8], number: u32, kind: u32, samples: usize, pcm: &[f32]) -> usize
+    requires { ⌜ (samples ≤ length (now pcm)) × (samples ≤ samplesMost) × (headMost ≤ length (now head)) ⌝ }
+    ensures { λ r. ⌜ headed r (now (head .exit))
+        ≡ headedBy (wordsBytes (number ∷ kind ∷ samples ∷ []) ++ floatsBytes (take samples (now (pcm .entry)))) (now (head .entry)) ⌝ }
+{
+    let count = samples as u32;
+    let report = [number, kind, count];
+    words::put_words_at(head, 0, &report);
+    words::put_floats_at(head, 3, &pcm[..samples]);
+    REPORT_BYTES + 4 * samples
+}
+
+fn answer(rec: &mut [u8], head: &mut [u8]) -> usize
+    requires { ⌜ (length (now rec) ≡ recordLength) × (headMost ≤ length (now head)) ⌝ }
+    ensures { λ r. ⌜ withRecord (headed r (now (head .exit))) (now (rec .exit))
+        ≡ withRecord (headedBy (headOf (lossOf (now (rec .entry)))) (now (head .entry))) (recordAfter (now (rec .entry))) ⌝ }
+{
+    let mut history = [0.0f32; history::WHOLE];
+    let mut pcm = [0.0f32; SAMPLES_MOST];
+    let a = conceal_record(rec, &mut history, &mut pcm);
+    let n = a.number;
+    let number = n.value();
+    let t = a.state;
+    keep_record(rec, number, t, &history);
+    write_head(head, number, a.kind, a.samples, &pcm)
+}
+
+// One record's step: the record becomes the one after its loss, and `head` starts with number, kind, sample count and
+// samples, as many bytes as is returned. Unless the record has 17,988 bytes and `head` 7,692 or more, both stay and 0 is returned.
+pub fn answer_record(rec: &mut [u8], head: &mut [u8]) -> usize
+    ensures { λ r. ⌜ withRecord (headed r (now (head .exit))) (now (rec .exit)) ≡ answerRecord (now (rec .entry)) (now (head .entry)) ⌝ }
+{
+    if rec.len() != record::BYTES {
+        return 0;
+    }
+    if head.len() < HEAD_BYTES {
+        return 0;
+    }
+    answer(rec, head)
+}
+
+// The step for what is left past the last whole record, n bytes of it: nothing for none, and else 11, 0, 0.
+// A `head` of less than 12 bytes stays.
+pub fn answer_tail(n: usize, head: &mut [u8]) -> usize
+    ensures { λ r. ⌜ headed r (now (head .exit)) ≡ answerTail n (now (head .entry)) ⌝ }
+{
+    if head.len() < REPORT_BYTES {
+        return 0;
+    }
+    if n == 0 {
+        return 0;
+    }
+    let report = [CUT_SHORT, 0u32, 0u32];
+    words::put_words_at(head, 0, &report);
+    REPORT_BYTES
+}

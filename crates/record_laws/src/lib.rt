@@ -1,0 +1,1 @@
+// A record read back: theorems alone, in specs/.

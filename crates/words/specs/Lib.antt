@@ -1,0 +1,2 @@
+-- 32-bit words and floats as bytes.
+pub mod Bytes
