@@ -18,16 +18,16 @@ module _ (ac : List Float) (p : ℕ) where
   unfolding lpcTo
   none = fold-none _ _
 
-  pub more : (i : ℕ) (l l' : List Float) (e r : Float) (b : Bool) → lpcTo ac p i ≡ state l e false
-      → r ≡ reflection l e ac i → l' ≡ foldTo (crossed r i) (set l i r) ((i + 1) / 2)
+  pub more : (i : ℕ) (l l' : List Float) (e r : Float) (n : ℕ) (b : Bool) → lpcTo ac p i ≡ state l e false
+      → r ≡ reflection l e ac i → l' ≡ foldTo (crossed r i) (set l i r) n → n ≡ (i + 1) / 2
       → lt (sub binary32 e (mul binary32 (mul binary32 r r) e)) (mul binary32 small32 (getD ac 0 nan)) ≡ b
       → lpcTo ac p (i + 1) ≡ state l' (sub binary32 e (mul binary32 (mul binary32 r r) e)) b
   unfolding lpcTo
-  more i l l' e r b s er el eb =
+  more i l l' e r n b s er el en eb =
       let e' : Float = sub binary32 e (mul binary32 (mul binary32 r r) e) in
       let t : Bool = lt e' (mul binary32 small32 (getD ac 0 nan)) in
       fold-suc _ _ i ∙ ap (λ z. lpcTurn ac z i) s ∙ ap (λ z. lpcWith ac (state l e false) i z) (sym er)
-      ∙ ap (λ z. state z e' t) (sym el) ∙ ap (λ z. state l' e' z) eb
+      ∙ ap (λ z. state (foldTo (crossed r i) (set l i r) z) e' t) (sym en) ∙ ap (λ z. state z e' t) (sym el) ∙ ap (λ z. state l' e' z) eb
 
   pub stopped : (i : ℕ) (l : List Float) (e : Float) → lpcTo ac p i ≡ state l e true → i ≤ p → lpcTo ac p p .lpc ≡ l
   stopped i l e s h = ap (λ z. z .lpc) (lpc-stops ac p i (ap (λ z. z .done) s) h ∙ s)

@@ -1,11 +1,10 @@
 // The linear predictor.
 ghost use mathlib.Core.Path.{_≡_};
-ghost use Prim.Native.Nat.{_+_, _/_, _<_};
+ghost use Prim.Native.Nat.{_+_};
 ghost use lib.Dec.{eqb};
-ghost use lib.ListN.{length, set};
-ghost use Rattle.loops.specs.Fold.{foldTo};
+ghost use lib.ListN.{length};
 ghost use Rattle.loops.specs.Reply.{reply, replyIf};
-ghost use Rattle.plc.specs.Lpc.{reflection, crossed, celtLpc};
+ghost use Rattle.plc.specs.Lpc.{celtLpc};
 
 // The part of the first correlation below which the error stops the predictor.
 const SMALL: f32 = 0.001;
@@ -15,33 +14,6 @@ pub struct Solved {
     pub taken: bool,
 }
 
-// Turn i's reflection coefficient.
-fn reflection(lpc: &[f32], ac: &[f32], i: usize, error: f32) -> f32
-    requires { ⌜ (i < length (now lpc)) × (i + 1 < length (now ac)) ⌝ }
-    ensures { λ r. ⌜ r ≡ reflection (now (lpc .entry)) error (now (ac .entry)) i ⌝ }
-{
-    let mut rr = 0.0f32;
-    for j in 0..i {
-        rr += lpc[j] * ac[i - j];
-    }
-    rr += ac[i + 1];
-    -rr / error
-}
-
-// Puts r at place i, and adds r times each earlier coefficient to the one as far from the other end.
-fn cross(lpc: &mut [f32], i: usize, r: f32)
-    requires { ⌜ i < length (now lpc) ⌝ }
-    ensures { λ _. ⌜ now (lpc .exit) ≡ foldTo (crossed r i) (set (now (lpc .entry)) i r) ((i + 1) / 2) ⌝ }
-{
-    lpc[i] = r;
-    for j in 0..((i + 1) >> 1) {
-        let tmp1 = lpc[j];
-        let tmp2 = lpc[i - 1 - j];
-        lpc[j] = tmp1 + r * tmp2;
-        lpc[i - 1 - j] = tmp2 + r * tmp1;
-    }
-}
-
 // Levinson-Durbin: leaves once the error is below 0.001 of the first correlation.
 fn solve(lpc: &mut [f32], ac: &[f32])
     requires { ⌜ length (now ac) ≡ length (now lpc) + 1 ⌝ }
@@ -49,13 +21,26 @@ fn solve(lpc: &mut [f32], ac: &[f32])
 {
     let p = lpc.len();
     let mut error = ac[0];
-    buffers::fill(lpc, 0.0);
+    for k in 0..p {
+        lpc[k] = 0.0;
+    }
     if ac[0] == 0.0 {
         return;
     }
     for i in 0..p {
-        let r = reflection(lpc, ac, i, error);
-        cross(lpc, i, r);
+        let mut rr = 0.0f32;
+        for j in 0..i {
+            rr += lpc[j] * ac[i - j];
+        }
+        rr += ac[i + 1];
+        let r = -rr / error;
+        lpc[i] = r;
+        for j in 0..((i + 1) >> 1) {
+            let tmp1 = lpc[j];
+            let tmp2 = lpc[i - 1 - j];
+            lpc[j] = tmp1 + r * tmp2;
+            lpc[i - 1 - j] = tmp2 + r * tmp1;
+        }
         error -= r * r * error;
         if error < SMALL * ac[0] {
             break;

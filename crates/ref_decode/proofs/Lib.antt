@@ -1,3 +1,6 @@
 mod Frames
-mod Paths
+pub mod Paths
 mod Entry
+pub mod Laws
+pub mod Keep
+pub mod Samples

@@ -1,0 +1,2 @@
+mod Hidden
+pub mod Same

@@ -1,0 +1,1 @@
+// Theorems only: nothing of the forward comb filter shows.

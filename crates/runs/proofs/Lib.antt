@@ -1,0 +1,3 @@
+mod Noise
+pub mod Limits
+pub mod Marked

@@ -1,0 +1,47 @@
+-- The marked examples, by computation; the draws from the law on every noise loss.
+use mathlib.Core.Path.{_≡_, refl, ap, ap₂, sym, _∙_}
+use mathlib.Core.Bool.{Bool, true, false, cond}
+use mathlib.Core.List.{List}
+use Prim.Native.Nat.{ℕ, zero, suc}
+use native.Mathlib.Omega.{arith}
+use lib.ListN.{length}
+use lib.Ieee.{Float}
+use Rattle.float_bits.specs.Marked.{marked-roots, marked-rounding}
+use Rattle.band_quant.specs.Draw.{draws}
+use Rattle.band_quant.specs.Marked.{drawn, heard}
+use Rattle.custom_mode.specs.Mode.{edges, edge}
+use Rattle.custom_mode.specs.Marked.{gains}
+use Rattle.post_filter.specs.Limits.{filterFits}
+use Rattle.state.specs.Settings.{factor, firstBin, stereo, drawsPerLoss, orElse, checkSettings}
+use Rattle.state.specs.State.{core, noisy}
+use Rattle.state.specs.Refusal.{refusesState, refusal}
+use Rattle.state.specs.declared.Settings.{Settings}
+use Rattle.state.specs.declared.State.{State}
+use Rattle.noise_loss.specs.Loss.{noiseSeed}
+use Rattle.ref_decode.specs.Loss.{blocks, noiseMade, pitchMade, made, finish, concealed, refused, answered, loss}
+use Rattle.runs.specs.Marked.{settingsAt, Draws, carrying, MarkedEdges}
+use Rattle.runs.proofs.Noise.{noise-draws}
+
+-- settings that pass, and the draws of a noise loss there
+counts : (lm channels start d : ℕ) → checkSettings (settingsAt lm channels start) ≡ 0 → drawsPerLoss (settingsAt lm channels start) ≡ d → Draws lm channels start d
+unfolding loss answered concealed refused finish made noiseMade blocks
+counts lm channels start d good e s h p k z = go (refusal s (length h) p)
+  where
+    go : (n : ℕ) → (answered n s h) .report .number ≡ 0 → (answered n s h) .state .seed ≡ draws d (s .seed)
+    go zero w =
+        ap (λ b. (cond b (noiseMade s) (pitchMade s h)) .seed) z
+        ∙ noise-draws (s .settings) (ap checkSettings k ∙ good) (s .seed) _
+        ∙ ap (λ n. draws n (s .seed)) (ap drawsPerLoss k ∙ e)
+    go (suc n) w = omega arith
+
+pub marked-edges : MarkedEdges
+unfolding factor firstBin edge edges drawsPerLoss refusesState orElse checkSettings filterFits
+marked-edges = record {
+  drawn = drawn;
+  heard = heard;
+  counted = (counts 0 1 0 100 refl refl, counts 3 2 0 1600 refl refl, counts 3 2 17 960 refl refl, counts 0 1 20 22 refl refl);
+  roots = marked-roots;
+  rounded = marked-rounding;
+  gains = gains;
+  lags = (refl, refl, refl, refl);
+}

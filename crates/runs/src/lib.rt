@@ -1,0 +1,1 @@
+// Runs of calls: definitions and theorems only.
