@@ -1,55 +1,45 @@
-use mathlib.Core.Path.{_≡_, refl, ap, _∙_, sym}
-use mathlib.Core.List.{List, [], _∷_, _++_}
-use mathlib.Core.Logic.{⊎-elim}
-use Prim.Native.Nat.{ℕ, zero, suc, _+_, _≤_, _<_, _-_}
+-- `conceal::answer_whole` meets its contract: an answer fits its buffer.
+use mathlib.Core.Path.{sym}
 use native.Mathlib.Omega.{arith}
-use native.Mathlib.Numerals.{add-one}
-use lib.ListN.{length, getD, set, take, drop, length-set}
+use lib.Seq.{length-take-le}
 use borrow.Author.Needs.{needs}
+use Rattle.answer.proofs.Answers.{answer-most}
 use Rattle.conceal.proofs.answer_whole.Statement.{statement}
 use Rattle.conceal.proofs.answer_whole.Tie as tie
-use Rattle.conceal.proofs.answer_whole.Reads as reads
-use Rattle.conceal.proofs.answer_whole.Lts as lts
-use Rattle.conceal.proofs.written.Reads as written-reads
-use Rattle.record.proofs.answer.answer_record.Reads as answer-record-reads
 
--- src/main.rt:32:48
 slice-aggregate-answer-record : tie.Need-slice-aggregate-answer-record
 slice-aggregate-answer-record c = search needs
 
--- src/main.rt:32:9
 answer-record-requires : tie.Need-answer-record-requires
 answer-record-requires c κs = search needs
 
--- src/main.rt:33:17
 array-share-prefix-head : tie.Need-array-share-prefix-head
-array-share-prefix-head c = search needs
+array-share-prefix-head c =
+    let answer = c .before .before .answer-record in
+    let most = answer-most _ _ _ _ _ (answer .ensures) in
+    omega (arith, answer .kept .1 .0)
 
--- src/main.rt:33:17
 slice-aggregate-written : tie.Need-slice-aggregate-written
-slice-aggregate-written c = search needs
+slice-aggregate-written c =
+    let answer = c .before .before .before .answer-record in
+    let most = answer-most _ _ _ _ _ (answer .ensures) in
+    sym (length-take-le _ _ (omega (arith, answer .kept .1 .0)))
 
--- src/main.rt:33:9
 written-requires : tie.Need-written-requires
 written-requires c κs = search needs
 
--- src/main.rt:34:9
 same-length : tie.Need-same-length
 same-length c = search needs
 
--- src/main.rt:34:9
 returns : tie.Need-returns
 returns c = search needs
 
--- src/main.rt:36:5
 written-requires-2 : tie.Need-written-requires-2
 written-requires-2 c κs = search needs
 
--- src/main.rt:30:1
 same-length-2 : tie.Need-same-length-2
 same-length-2 c = search needs
 
--- src/main.rt:30:1
 returns-2 : tie.Need-returns-2
 returns-2 c = search needs
 

@@ -1,17 +1,8 @@
-use mathlib.Core.Path.{_≡_, refl, ap, _∙_, sym}
-use mathlib.Core.List.{List, [], _∷_, _++_}
-use mathlib.Core.Logic.{⊎-elim}
-use Prim.Native.Nat.{ℕ, zero, suc, _+_, _≤_, _<_, _-_}
-use native.Mathlib.Omega.{arith}
-use native.Mathlib.Numerals.{add-one}
-use lib.ListN.{length, getD, set, take, drop, length-set}
+use mathlib.Core.Path.{_≡_}
+use lib.ListN.{length}
 use borrow.Author.Needs.{needs}
 use Rattle.conceal.proofs.streams.read_some.Statement.{statement}
 use Rattle.conceal.proofs.streams.read_some.Tie as tie
-use Rattle.conceal.proofs.streams.read_some.Reads as reads
-use Rattle.conceal.proofs.streams.read_some.Lts as lts
-use Rattle.conceal.proofs.streams.again.Reads as again-reads
-use Rattle.libc.proofs.read.Reads as read-reads
 
 abbrev Inv-loop : tie.InvT-loop
 Inv-loop part₀ turns₀ got₀ part turns got = length part ≡ length part₀
@@ -19,55 +10,42 @@ Inv-loop part₀ turns₀ got₀ part turns got = length part ≡ length part₀
 abbrev μ-loop : tie.MeasureT-loop
 μ-loop part₀ turns₀ got₀ part turns got = turns
 
--- src/streams.rt:26:9
 read-requires : tie.Need-read-requires Inv-loop μ-loop
 read-requires c κs = search needs
 
--- src/streams.rt:27:5
 loop-holds : tie.Need-loop-holds Inv-loop μ-loop
 loop-holds c = search needs
 
--- src/streams.rt:27:35
 again-requires : tie.Need-again-requires Inv-loop μ-loop
 again-requires c κs = search needs
 
--- src/streams.rt:28:9
 read-requires-2 : tie.Need-read-requires-2 Inv-loop μ-loop
 read-requires-2 c κs = search needs
 
--- src/streams.rt:29:9
 sub-turns : tie.Need-sub-turns Inv-loop μ-loop
 sub-turns c = search needs
 
--- src/streams.rt:27:5
 loop-less : tie.Need-loop-less Inv-loop μ-loop
 loop-less c = search needs
 
--- src/streams.rt:27:5
 loop-again : tie.Need-loop-again Inv-loop μ-loop
 loop-again c = search needs
 
--- src/streams.rt:24:1
 same-length : tie.Need-same-length Inv-loop μ-loop
 same-length c = search needs
 
--- src/streams.rt:24:1
 returns : tie.Need-returns Inv-loop μ-loop
 returns c = search needs
 
--- src/streams.rt:24:1
 same-length-2 : tie.Need-same-length-2 Inv-loop μ-loop
 same-length-2 c = search needs
 
--- src/streams.rt:24:1
 returns-2 : tie.Need-returns-2 Inv-loop μ-loop
 returns-2 c = search needs
 
--- src/streams.rt:24:1
 same-length-3 : tie.Need-same-length-3 Inv-loop μ-loop
 same-length-3 c = search needs
 
--- src/streams.rt:24:1
 returns-3 : tie.Need-returns-3 Inv-loop μ-loop
 returns-3 c = search needs
 
