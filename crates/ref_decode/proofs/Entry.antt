@@ -16,7 +16,8 @@ use Rattle.state.specs.Refusal.{checkCount, checkPcm, refusesState, refusal}
 use Rattle.state.specs.declared.State.{State}
 use Rattle.state.proofs.Passed.{or-zero, passes}
 use Rattle.deemphasis.specs.Deemphasis.{Sound}
-use Rattle.ref_decode.specs.Loss.{Outcome, noiseMade, pitchMade, made, tailsByNoise, tailsByPitch, tailsAfter, historyAfter, frameSound, finish, concealed, refused, answered, loss, inBuffer, soundIn}
+use Rattle.ref_decode.specs.Loss.{noiseMade, pitchMade, made, tailsByNoise, tailsByPitch, tailsAfter, historyAfter}
+use Rattle.ref_decode.specs.Loss.{Outcome, frameSound, finishWith, finish, concealed, refused, answered, loss, inBuffer, soundIn}
 use Rattle.ref_decode.specs.declared.Made.{Made}
 
 module _ (s : State) (n p : ℕ) (z : refusal s n p ≡ 0) where
@@ -37,42 +38,11 @@ module _ (s : State) (n p : ℕ) (z : refusal s n p ≡ 0) where
       let e = not-true (eqb (s .«loss_count») 4294967295) (passes (not (eqb (s .«loss_count») 4294967295)) 5 q) in
       omega (arith, eqb-false (s .«loss_count») 4294967295 e)
 
--- the end of either path, from its PCM, memories and number of samples
+-- the end of either path
 pub finish-left : (s : State) (m : Made) (h p : List Float) (y : Sound) (n : ℕ)
-    → y ≡ soundIn p (frameSound (s .settings) (s .memories) h) → n ≡ needed (s .settings)
-    → _≡_ {A = Outcome} (record {
-      report = record { number = 0; kind = m .kind; samples = n };
-      pcm = y .pcm;
-      state = record {
-        settings = s .settings;
-        «loss_count» = s .«loss_count» + 1;
-        seed = m .seed;
-        lag = m .lag;
-        filter = s .filter;
-        coarse = m .coarse;
-        background = s .background;
-        memories = y .memories;
-        predictor = m .predictor;
-      };
-      history = h;
-    }) (inBuffer p (finish s m h))
+    → y ≡ soundIn p (frameSound (s .settings) (s .memories) h) → n ≡ needed (s .settings) → finishWith s m h y n ≡ inBuffer p (finish s m h)
 unfolding finish inBuffer soundIn
-finish-left s m h p y n e f = λ i. record {
-  report = record { number = 0; kind = m .kind; samples = f i };
-  pcm = e i .pcm;
-  state = record {
-    settings = s .settings;
-    «loss_count» = s .«loss_count» + 1;
-    seed = m .seed;
-    lag = m .lag;
-    filter = s .filter;
-    coarse = m .coarse;
-    background = s .background;
-    memories = e i .memories;
-    predictor = m .predictor;
-  };
-  history = h;
-}
+finish-left s m h p y n e f = ap₂ (finishWith s m h) e f
 
 -- the whole of a path
 module _ (s : State) (h : List Float) where
@@ -106,6 +76,7 @@ module _ (s : State) (h : List Float) where
     refuses zero f = absurd (f refl)
     refuses (suc m) f = refl
 
-    pub refused-left : (n ≡ 0 → ⊥) → _≡_ {A = Outcome} (record { report = record { number = n; kind = 0; samples = 0 }; pcm = p; state = s; history = h }) (inBuffer p (loss s h (length p)))
+    pub refused-left : (n ≡ 0 → ⊥)
+        → _≡_ {A = Outcome} (record { report = record { number = n; kind = 0; samples = 0 }; pcm = p; state = s; history = h }) (inBuffer p (loss s h (length p)))
     unfolding loss refused inBuffer front
     refused-left f = ap (inBuffer p) (refuses n f ∙ ap (λ m. answered m s h) e)

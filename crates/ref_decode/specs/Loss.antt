@@ -83,11 +83,11 @@ pub record Outcome : Type 0 where
 unfoldable pub frameSound : Settings → List Float → List Float → Sound
 frameSound k memories h = deemphasis (k .downsample) (newest (stereo k) (frame k) h) memories
 
--- from what a path made and the history that it left
-unfoldable pub finish : State → Made → List Float → Outcome
-finish s m h = record {
-  report = record { number = 0; kind = m .kind; samples = needed (s .settings) };
-  pcm = frameSound (s .settings) (s .memories) h .pcm;
+-- an accepted loss, from what its path made, the history that it left, its sound and its number of samples
+abbrev pub finishWith : State → Made → List Float → Sound → ℕ → Outcome
+finishWith s m h y n = record {
+  report = record { number = 0; kind = m .kind; samples = n };
+  pcm = y .pcm;
   state = record {
     settings = s .settings;
     «loss_count» = s .«loss_count» + 1;
@@ -96,11 +96,14 @@ finish s m h = record {
     filter = s .filter;
     coarse = m .coarse;
     background = s .background;
-    memories = frameSound (s .settings) (s .memories) h .memories;
+    memories = y .memories;
     predictor = m .predictor;
   };
   history = h;
 }
+
+unfoldable pub finish : State → Made → List Float → Outcome
+finish s m h = finishWith s m h (frameSound (s .settings) (s .memories) h) (needed (s .settings))
 
 -- an accepted loss
 unfoldable pub concealed : State → List Float → Outcome

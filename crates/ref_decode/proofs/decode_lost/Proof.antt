@@ -10,11 +10,14 @@ use Rattle.ref_decode.proofs.decode_lost.Tie as tie
 
 -- where the number is 0
 module _ (c : tie.Else1) where
-  not-refused : refusal (c .before .before .before .before .before .args .s) (length (c .before .before .before .before .before .args .history .now)) (length (c .before .before .before .before .before .args .pcm .now)) ≡ 0
+  abbrev entry : tie.Start
+  entry = c .before .before .before .before .before
+
+  not-refused : refusal (entry .args .s) (length (entry .args .history .now)) (length (entry .args .pcm .now)) ≡ 0
   not-refused = sym (c .before .before .first-refusal .ensures) ∙ sym (c .before .value .ensures) ∙ c .if1 .left
 
-  taken : inBuffer (c .before .before .before .before .before .args .pcm .now) (concealed (c .before .before .before .before .before .args .s) (c .before .before .before .before .before .args .history .now))
-      ≡ inBuffer (c .before .before .before .before .before .args .pcm .now) (loss (c .before .before .before .before .before .args .s) (c .before .before .before .before .before .args .history .now) (length (c .before .before .before .before .before .args .pcm .now)))
+  taken : inBuffer (entry .args .pcm .now) (concealed (entry .args .s) (entry .args .history .now))
+      ≡ inBuffer (entry .args .pcm .now) (loss (entry .args .s) (entry .args .history .now) (length (entry .args .pcm .now)))
   taken = accepted-left _ _ _ _ (c .before .before .first-refusal .ensures) (sym (c .before .value .ensures) ∙ c .if1 .left)
 
 first-refusal-requires : tie.Need-first-refusal-requires

@@ -28,7 +28,9 @@ same-length c = search needs
 returns : tie.Need-returns
 returns c =
     let x = c .before .before .before .before .before .before .before .before .before .before .before .before .before .before in
-    noise-path (x .args .s) (x .args .history .now) (x .pre) _ _ _ _ _ (c .before .before .before .before .before .before .before .lower-energies .ensures) (c .before .before .before .before .before .read-energies .ensures) (c .before .before .before .noise-loss .ensures)
+    let lower = c .before .before .before .before .before .before .before .lower-energies in
+    let read = c .before .before .before .before .before .read-energies in
+    noise-path (x .args .s) (x .args .history .now) (x .pre) _ _ _ _ _ (lower .ensures) (read .ensures) (c .before .before .before .noise-loss .ensures)
 
 pub noise-made-spec : {M : Type 1} → statement M
 noise-made-spec =

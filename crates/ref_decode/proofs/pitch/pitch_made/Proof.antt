@@ -20,7 +20,10 @@ same-length c = search needs
 returns : tie.Need-returns
 returns c =
     let x = c .before .before .before .before .before .before .before .before .before .before .before .before .before .before .before in
-    pitch-path (x .args .s) (x .args .history .now) (x .pre .0) (x .pre .1) _ _ _ _ (c .before .before .before .before .before .before .before .before .before .lag-used .ensures) (c .before .before .before .before .before .before .predictor-used .ensures) (c .before .before .before .pitch-loss .ensures)
+    let lag = c .before .before .before .before .before .before .before .before .before .lag-used in
+    let predictor = c .before .before .before .before .before .before .predictor-used in
+    pitch-path (x .args .s) (x .args .history .now) (x .pre .0) (x .pre .1) _ _ _ _ (lag .ensures) (predictor .ensures)
+    (c .before .before .before .pitch-loss .ensures)
 
 pub pitch-made-spec : {M : Type 1} → statement M
 pitch-made-spec =
