@@ -18,7 +18,7 @@ use Rattle.state.specs.Answer.{Report, reportOf, numberOf}
 use Rattle.state.specs.declared.Answer.{Answer}
 use Rattle.state.specs.declared.State.{State}
 use Rattle.ref_decode.specs.Loss.{loss, outcomeOf, inBuffer, Outcome}
-use Rattle.answer.proofs.Samples.{loss-samples}
+use Rattle.ref_decode.proofs.Samples.{loss-samples}
 use Rattle.words.specs.Bytes.{wordsBytes, floatsBytes, floatsAt}
 use Rattle.words.proofs.Laws.{length-bytes, put-front, put-next}
 use Rattle.record.specs.Record.{recordLength, stateOf, historyOf, recordOf}

@@ -3,7 +3,7 @@ use crate::calls;
 use crate::streams;
 use state::State;
 
-// The words of a state that op 1003 gives; all past them are 0.
+// The bytes of a state that op 1003 gives; all past them are 0.
 const HEAD: usize = 44;
 
 // One call on a record's state, lent the first n samples of its history.

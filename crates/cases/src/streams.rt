@@ -30,7 +30,7 @@ pub(crate) fn write_word(w: u32) -> bool {
     io::write_all(libc::STDOUT_FILENO, &b)
 }
 
-// Nothing that is written here is as large as a word.
+// Every number that is written here fits a word.
 pub(crate) fn write_number(n: usize) -> bool {
     write_word((n % 0x1_0000_0000) as u32)
 }
