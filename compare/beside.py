@@ -3,13 +3,10 @@ import os
 import struct
 import subprocess
 from collections import Counter
-from pathlib import Path
 
-import cases as c
 import states as st
+from ops import HERE, OPS, ROOT
 
-HERE = Path(__file__).resolve().parent
-ROOT = HERE.parent
 RECORD = 4 * st.STATE
 
 
@@ -57,7 +54,7 @@ def blocks(todo, limit=1 << 25):
     block, size = [], 0
     for case in todo:
         block.append(case)
-        size += 4 * max(1 + len(case[2]), c.OPS[case[0]][2])
+        size += 4 * max(1 + len(case[2]), OPS[case[0]].words_out)
         if size > limit:
             yield block
             block, size = [], 0
@@ -72,7 +69,7 @@ def compare_cases(todo, left, right):
         one, other = run(left, data), run(right, data)
         at = 0
         for n, (op, family, _) in enumerate(block, done):
-            end = at + 4 * c.OPS[op][2]
+            end = at + 4 * OPS[op].words_out
             a, b = one[at:end], other[at:end]
             tally.add(f"{op} {family}", a == b and len(a) == end - at,
                       lambda: f"case {n}, {first_unlike(a, b)}")

@@ -7,6 +7,7 @@ import subprocess
 from pathlib import Path
 
 import extract
+import ops
 import tables
 
 HERE = Path(__file__).resolve().parent
@@ -100,6 +101,7 @@ def program(parts, own=("around.rs", "standin.rs", "measure.rs", "tool.rs")):
         "pub fn transform(spectrum: &[f32], out: &mut [f32]) -> bool {\n"
         f"    {transform.group(1)}(spectrum, out)\n}}\n")
     filled["tables"] = parts.get("tables") or tables.rust()
+    filled["ops"] = ops.rust()
     text = "#![allow(unused)]\n"
     for name in own:
         text += (HERE / name).read_text()

@@ -1,6 +1,4 @@
-"""Cases of each op by family, seeded and repeatable: (op, family, words).
-
-`OPS` gives each op's program and its words in and out."""
+"""Cases of each op by family, seeded and repeatable: (op, family, words)."""
 import math
 from array import array
 from random import Random
@@ -9,28 +7,8 @@ import halfway
 import kept
 import states as st
 import words as w
+from ops import GROUPS, OPS
 
-OPS = {
-    101: ("float_bits", 2, 1), 102: ("float_bits", 2, 1), 103: ("float_bits", 1, 1),
-    104: ("float_bits", 2, 1), 105: ("float_bits", 1, 2), 106: ("float_bits", 1, 1),
-    107: ("float_bits", 1, 1), 108: ("float_bits", 2, 1),
-    201: ("plc", 1024, 5), 202: ("plc", 1144, 25), 203: ("plc", 25, 24), 204: ("plc", 5, 4),
-    205: ("plc", 1072, 1024), 206: ("plc", 1032, 1024), 207: ("plc", 1026, 1024),
-    208: ("plc", 1249, 1200),
-    301: ("plc_pitch", 2048, 1024), 302: ("plc_pitch", 4096, 1024), 303: ("plc_pitch", 642, 2),
-    304: ("plc_pitch", 1334, 2), 305: ("plc_pitch", 1024, 1), 306: ("plc_pitch", 2048, 1),
-    307: ("plc_pitch", 4096, 1),
-    401: ("band_quant", 1, 1), 402: ("band_quant", 177, 176),
-    501: ("custom_mode", 2, 1), 502: ("custom_mode", 1, 1), 503: ("custom_mode", 1, 2),
-    504: ("custom_mode", 1, 1), 505: ("custom_mode", 1, 1),
-    601: ("mdct", 1, 1), 602: ("mdct", 2, 1), 603: ("mdct", 1, 2), 611: ("mdct", 120, 240),
-    612: ("mdct", 240, 480), 613: ("mdct", 480, 960), 614: ("mdct", 960, 1920),
-    701: ("deemphasis", 1925, 1922),
-    801: ("pitch_loss", 2198, 2192),
-    901: ("noise_loss", 30, 1081), 902: ("noise_loss", 2198, 2169), 903: ("noise_loss", 54, 50),
-    1001: ("ref_decode", 4499, 6500), 1002: ("ref_decode", 4514, 4561), 1003: ("ref_decode", 13, 6),
-}
-PROGRAMS = list(dict.fromkeys(program for program, _, _ in OPS.values()))
 MEANS = [6.4375, 6.25, 5.75, 5.3125, 5.0625, 4.8125, 4.5, 4.375, 4.875, 4.6875, 4.5625, 4.4375,
          4.875, 4.625, 4.3125, 4.5, 4.375, 4.625, 4.75, 4.4375, 3.75]
 
@@ -51,12 +29,12 @@ class Cases:
         self.sounds = self.states.sounds
         self.last = (None, None)
 
-    def program(self, name):
-        """All cases of a program as (op, family, words)."""
-        for op, (program, _, _) in OPS.items():
-            if program == name:
+    def group(self, name):
+        """All cases of a group of ops as (op, family, words)."""
+        for op in OPS:
+            if OPS[op].group == name:
                 for family, body in self.op(op):
-                    assert len(body) == OPS[op][1], (op, family, len(body))
+                    assert len(body) == OPS[op].words_in, (op, family, len(body))
                     yield op, family, body
                 for k in kept.CASES.get(op, []):
                     yield op, "kept", self.kept(op, k)
@@ -76,17 +54,14 @@ class Cases:
 
     def op(self, op):
         rng = Random(f"{self.seed} {op}")
-        group = {1: self.floats, 2: self.plc, 3: self.pitch, 4: self.band, 5: self.mode,
-                 6: self.mdct, 7: self.deemphasis, 8: self.pitch_loss, 9: self.noise_loss,
-                 10: self.whole}[op // 100]
-        return group(op, rng)
+        return getattr(self, OPS[op].group)(op, rng)
 
     # Float helpers.
     def floats(self, op, rng):
         for body in self.float_edges(op, rng):
             yield "edges", body
         for _ in range(self.many):
-            body = [rng.getrandbits(32) for _ in range(OPS[op][1])]
+            body = [rng.getrandbits(32) for _ in range(OPS[op].words_in)]
             if op == 104 and rng.random() < 0.7:
                 body[1] = body[1] & 0x800FFFFF | rng.randint(0x368, 0x480) << 20
             if op > 102 or not unlike_zeros(*body):
@@ -183,7 +158,7 @@ class Cases:
         return w.random_words(rng, count)
 
     # plc.rs.
-    def plc(self, op, rng):
+    def filters(self, op, rng):
         if op == 201:
             yield from self.signals(rng, 1024)
         elif op == 202:
@@ -194,7 +169,7 @@ class Cases:
                     window = w.float_words([rng.gauss(0, 1) for _ in range(120)])
                 yield family, x + window
         elif op in (203, 204):
-            yield from self.correlations(rng, OPS[op][1])
+            yield from self.correlations(rng, OPS[op].words_in)
         elif op == 208:
             for family, x in self.signals(rng, 1200):
                 n = rng.choice([360, 480, 720, 1200])
@@ -244,11 +219,11 @@ class Cases:
         lags.append(-r2 * error - r1 * lags[1])
         return lags + [rng.uniform(-0.5, 0.5) * first for _ in range(count - 3)]
 
-    def pitch(self, op, rng):
+    def search(self, op, rng):
         if op in (303, 304):
             yield from self.sweeps(op, rng)
             return
-        count = OPS[op][1]
+        count = OPS[op].words_in
         if op == 305:
             yield from self.signals(rng, 1024, 3 * self.few)
         elif count == 2048:
@@ -293,7 +268,7 @@ class Cases:
             yield "random words", w.random_words(rng, top + y_len)
 
     # band_quant.rs.
-    def band(self, op, rng):
+    def bands(self, op, rng):
         if op == 401:
             for seed in (0, 0x3C6EF35F, 0x47502932, 0xD1CCF6E9, 1, 0x7FFFFFFF, 0x80000000, 0xFFFFFFFF):
                 yield "edges", [seed]
@@ -335,7 +310,7 @@ class Cases:
         return array("I", [width]) + values + array("I", bytes(4 * (176 - width)))
 
     # custom_mode.rs and the band gain.
-    def mode(self, op, rng):
+    def modes(self, op, rng):
         if op == 502:
             for rate in (48000, 24000, 16000, 12000, 8000):
                 for near in (rate - 1, rate, rate + 1):
@@ -373,7 +348,7 @@ class Cases:
             yield "random words", [rng.getrandbits(32), mean()]
 
     # mdct.rs.
-    def mdct(self, op, rng):
+    def transform(self, op, rng):
         if op == 601:
             for i in range(120):
                 yield "table", [i]
@@ -385,7 +360,7 @@ class Cases:
             for j in range(1921):
                 yield "table", [j]
         else:
-            yield from self.spectra(rng, OPS[op][1])
+            yield from self.spectra(rng, OPS[op].words_in)
 
     def spectra(self, rng, n):
         few = max(1, self.few * 120 // n)
@@ -421,7 +396,7 @@ class Cases:
                 yield "last bit", self.halfway.spectrum(rng, n, entry, up)
 
     # Parts of decode_lost.
-    def deemphasis(self, op, rng):
+    def frames(self, op, rng):
         for family, x in self.signals(rng, 1920):
             lm, channels = rng.randrange(4), rng.randint(1, 2)
             n = 120 << lm
@@ -432,7 +407,7 @@ class Cases:
             head = array("I", [lm, channels, rng.choice(st.FACTORS), *mems])
             yield family, head + x[:n] + rest + second
 
-    def pitch_loss(self, op, rng):
+    def pitch(self, op, rng):
         makers = ["tone", "voice", "drum", "noise", "hiss", "silence", "near ties", "swelling", "filters",
                   "overflow", "hostile words", "random words"]
         for family in makers:
@@ -445,7 +420,7 @@ class Cases:
         head = [s[st.LM], first, s[st.LAG], s[st.GAIN], s[st.PERIOD], s[st.TAPSET]]
         return array("I", head) + s[st.LPC : st.LPC + 24] + s[st.HISTORY : st.HISTORY + 2168]
 
-    def noise_loss(self, op, rng):
+    def noise(self, op, rng):
         for family in ["comfort noise", "energy edges", "hostile words", "random words"]:
             for s in self.states.make(family, self.few, self.seed):
                 start = s[st.START]
@@ -457,7 +432,7 @@ class Cases:
                 body = array("I", head) + s[st.BACKGROUND : st.BACKGROUND + 25]
                 yield family, body + (s[st.HISTORY : st.HISTORY + 2168] if op == 902 else array("I"))
 
-    def whole(self, op, rng):
+    def losses(self, op, rng):
         if op == 1003:
             yield from self.silent(rng)
             return

@@ -284,7 +284,7 @@ def told_apart(wrong, todo, records, right):
         if got is None:
             found.add(f"{op} breaks down")
         elif got != right[op]:
-            size = 4 * cases.OPS[op][2]
+            size = 4 * cases.OPS[op].words_out
             for n, case in enumerate(group):
                 if got[n * size : (n + 1) * size] != right[op][n * size : (n + 1) * size]:
                     found.add(f"{op} {case[1]}")
@@ -306,8 +306,8 @@ def tool(parts, name):
 def by_op(seed, scale):
     maker = cases.Cases(seed, scale, 300)
     todo = defaultdict(list)
-    for name in cases.PROGRAMS:
-        for case in maker.program(name):
+    for name in cases.GROUPS:
+        for case in maker.group(name):
             todo[case[0]].append(case)
     return todo
 

@@ -30,47 +30,10 @@ fn filled(mut answer: Vec<u32>, length: usize) -> Vec<u32> {
     answer
 }
 
-/// How many words a case of this op has.
-fn width(op: u32) -> Option<usize> {
-    Some(match op {
-        101 | 102 | 104 | 108 => 2,
-        103 | 105 | 106 | 107 => 1,
-        201 => 1024,
-        202 => 1144,
-        203 => 25,
-        204 => 5,
-        205 => 1072,
-        206 => 1032,
-        207 => 1026,
-        208 => 1249,
-        301 => 2048,
-        302 => 4096,
-        303 => 642,
-        304 => 1334,
-        305 => 1024,
-        306 => 2048,
-        307 => 4096,
-        401 => 1,
-        402 => 177,
-        501 => 2,
-        502..=505 => 1,
-        601 | 603 => 1,
-        602 => 2,
-        611 => 120,
-        612 => 240,
-        613 => 480,
-        614 => 960,
-        701 => 1925,
-        801 => 2198,
-        901 => 30,
-        902 => 2198,
-        903 => 54,
-        1001 => 4499,
-        1002 => 4514,
-        1003 => 13,
-        _ => return None,
-    })
-}
+/// The operations: number, words in, words out.
+const OPS: &[(u32, usize, usize)] = &[
+//@ ops
+];
 
 fn answer(op: u32, w: &[u32]) -> Vec<u32> {
     let x = |i: usize| f32::from_bits(w[i]);
@@ -367,9 +330,11 @@ fn cases(input: &[u32]) -> Vec<u32> {
     let mut at = 0;
     while at < input.len() {
         let op = input[at];
-        let Some(n) = width(op) else { break };
+        let Some(&(_, n, m)) = OPS.iter().find(|o| o.0 == op) else { break };
         let Some(body) = input.get(at + 1..at + 1 + n) else { break };
-        out.extend(answer(op, body));
+        let words = answer(op, body);
+        assert_eq!(words.len(), m);
+        out.extend(words);
         at += 1 + n;
     }
     out

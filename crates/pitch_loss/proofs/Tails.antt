@@ -200,21 +200,23 @@ module _ (n lag : ℕ) (first : Bool) (f : Filter) (h : List Float) (lh : length
 
 -- ---- by the settings
 
-module _ (k : Settings) (n lag : ℕ) (first : Bool) (f : Filter) (h h' c : List Float) (l : length c ≡ order + order) (p : n ≡ frame k) where
-  pub mono-is : (c₀ : List Float) → stereo k ≡ false → c₀ ≡ take order (drop 0 c) → h' ≡ withTails h (firstTail n lag first c₀ f (tails h))
-      → h' ≡ withTails h (pitchTails (stereo k) (frame k) lag first c f (tails h))
+module _ (n lag : ℕ) (first : Bool) (f : Filter) (h h' c : List Float) (l : length c ≡ order + order) where
+  pub mono-is : (c₀ : List Float) → c₀ ≡ take order (drop 0 c) → h' ≡ withTails h (firstTail n lag first c₀ f (tails h))
+      → h' ≡ withTails h (pitchTails false n lag first c f (tails h))
   unfolding firstTail pitchTails
-  mono-is c₀ s q e =
-      e ∙ (λ i. withTails h (firstTail (p i) lag first (q i) f (tails h)))
-      ∙ sym (ap (λ two. withTails h (pitchTails two (frame k) lag first c f (tails h))) s)
+  mono-is c₀ q e = e ∙ ap (λ w. withTails h (firstTail n lag first w f (tails h))) q
 
-  pub pair-is : (c₀ d₀ : List Float) → stereo k ≡ true → c₀ ≡ take order (drop 0 c) → d₀ ≡ take order (drop order c)
-      → h' ≡ withTails h (bothTails n lag first c₀ d₀ f (tails h)) → h' ≡ withTails h (pitchTails (stereo k) (frame k) lag first c f (tails h))
+  pub pair-is : (c₀ d₀ : List Float) → c₀ ≡ take order (drop 0 c) → d₀ ≡ take order (drop order c)
+      → h' ≡ withTails h (bothTails n lag first c₀ d₀ f (tails h)) → h' ≡ withTails h (pitchTails true n lag first c f (tails h))
   unfolding bothTails pitchTails
-  pair-is c₀ d₀ s q r e =
+  pair-is c₀ d₀ q r e =
       let d : d₀ ≡ drop order c = r ∙ take-all order (drop order c) (omega (arith, length-drop order c)) in
-      e ∙ (λ i. withTails h (bothTails (p i) lag first (q i) (d i) f (tails h)))
-      ∙ sym (ap (λ two. withTails h (pitchTails two (frame k) lag first c f (tails h))) s)
+      e ∙ (λ i. withTails h (bothTails n lag first (q i) (d i) f (tails h)))
+
+-- of two channels or one, a frame long
+pub used-is : (k : Settings) (two : Bool) (n lag : ℕ) (first : Bool) (f : Filter) (h h' c : List Float) → stereo k ≡ two → n ≡ frame k
+    → h' ≡ withTails h (pitchTails two n lag first c f (tails h)) → h' ≡ withTails h (pitchTails (stereo k) (frame k) lag first c f (tails h))
+used-is k two n lag first f h h' c s p e = e ∙ (λ i. withTails h (pitchTails (sym s i) (p i) lag first c f (tails h)))
 
 -- what an accepted call may go by
 pub record Fits (k : Settings) (size lag : ℕ) (f : Filter) : Type 0 where

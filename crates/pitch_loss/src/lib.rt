@@ -1,6 +1,6 @@
 // A pitch loss on a whole history: the newest samples continued by a frame, which is rolled in, folded into the overlap and pre-filtered.
 ghost use mathlib.Core.Path.{_≡_};
-ghost use mathlib.Core.Bool.{true};
+ghost use mathlib.Core.Bool.{true, false};
 ghost use Prim.Native.Nat.{_≤_};
 ghost use lib.ListN.{length};
 ghost use Rattle.loops.specs.Reply.{reply, replyIf};
@@ -57,6 +57,52 @@ fn frame_of(k: Settings) -> usize
     frame_size(k.lm)
 }
 
+fn conceal_mono(
+    n: usize,
+    history: &mut [f32],
+    lag: usize,
+    first: bool,
+    predictor: [f32; 48],
+    filter: Filter,
+)
+    requires { ⌜ (length (now history) ≡ whole) × (n ≤ longestFrame) × (lagLeast ≤ lag) × (lag ≤ lagMost) × (filterFits filter ≡ true) ⌝ }
+    ensures { λ _. ⌜ now (history .exit) ≡ withTails (now (history .entry)) (pitchTails false n lag first predictor filter (tails (now (history .entry)))) ⌝ }
+{
+    let m = n + 2 * OVERLAP;
+    let mut e = [0.0f32; LONGEST];
+    let lpc = channels::coefficients(&predictor[0..ORDER]);
+    channels::conceal_one(history, &mut e[0..m], n, lag, first, &lpc, filter);
+}
+
+fn conceal_stereo(
+    n: usize,
+    history: &mut [f32],
+    lag: usize,
+    first: bool,
+    predictor: [f32; 48],
+    filter: Filter,
+)
+    requires { ⌜ (length (now history) ≡ whole) × (n ≤ longestFrame) × (lagLeast ≤ lag) × (lag ≤ lagMost) × (filterFits filter ≡ true) ⌝ }
+    ensures { λ _. ⌜ now (history .exit) ≡ withTails (now (history .entry)) (pitchTails true n lag first predictor filter (tails (now (history .entry)))) ⌝ }
+{
+    let m = n + 2 * OVERLAP;
+    let mut e0 = [0.0f32; LONGEST];
+    let mut e1 = [0.0f32; LONGEST];
+    let lpc0 = channels::coefficients(&predictor[0..ORDER]);
+    let lpc1 = channels::coefficients(&predictor[ORDER..BOTH]);
+    channels::conceal_pair(
+        history,
+        &mut e0[0..m],
+        &mut e1[0..m],
+        n,
+        lag,
+        first,
+        &lpc0,
+        &lpc1,
+        filter,
+    );
+}
+
 // Mono runs the single filter, stereo the pair.
 fn conceal(
     k: Settings,
@@ -70,34 +116,11 @@ fn conceal(
     ensures { λ _. ⌜ now (history .exit) ≡ withTails (now (history .entry)) (pitchTails (stereo k) (frame k) lag first predictor filter (tails (now (history .entry)))) ⌝ }
 {
     let n = frame_of(k);
-    let m = n + 2 * OVERLAP;
-    let mut e0 = [0.0f32; LONGEST];
-    let lpc0 = channels::coefficients(&predictor[0..ORDER]);
     if k.channels == 2 {
-        let mut e1 = [0.0f32; LONGEST];
-        let lpc1 = channels::coefficients(&predictor[ORDER..BOTH]);
-        channels::conceal_pair(
-            history,
-            &mut e0[0..m],
-            &mut e1[0..m],
-            n,
-            lag as usize,
-            first,
-            &lpc0,
-            &lpc1,
-            filter,
-        );
+        conceal_stereo(n, history, lag as usize, first, predictor, filter);
         return;
     }
-    channels::conceal_one(
-        history,
-        &mut e0[0..m],
-        n,
-        lag as usize,
-        first,
-        &lpc0,
-        filter,
-    );
+    conceal_mono(n, history, lag as usize, first, predictor, filter);
 }
 
 // Conceals a lost frame of each used channel; `first` says that the loss before it was none. predictor has 24 coefficients of either channel.

@@ -12,7 +12,7 @@ takes-requires : tie.Need-takes-requires
 takes-requires c κs = search needs
 
 -- what an accepted call may go by
-accepted : (c : tie.Else1) → Fits (length (c .before .before .before .before .args .e .now)) (length (c .before .before .before .before .args .new .now)) (c .before .before .before .before .args .lag)
+accepted : (c : tie.Else1) → let a = c .before .before .before .before .args in Fits (length (a .e .now)) (length (a .new .now)) (a .lag)
 accepted c = takes-fits _ _ _ (sym (c .before .takes .ensures) ∙ not-false _ (c .if1 .left))
 
 returns : tie.Need-returns
@@ -35,18 +35,20 @@ same-length c = search needs
 
 returns-2 : tie.Need-returns-2
 returns-2 c =
-    let a = c .before .before .before .before .before .before .before .before .before .before .before .before .before .before .before .before .before .before .before .args in
+    let r = c .before .before .before .before .before .before .before .before .before .before .before .before .before .before in
+    let m = r .before in
+    let a = m .before .before .before .before .args in
     let f = c .before .before .before .before .before .before .before .before .before .before .before .faded-cycle in
-    let mem = c .before .before .before .before .before .before .before .before .before .before .before .before .before .before .most-recent in
+    let mem = r .most-recent in
     let y = c .before .before .before .before .before .before .celt-iir-inplace in
     reply-yes _ (extrapolated (length (a .e .now)) (a .new .now) (a .lag) (a .first) (a .lpc .now)) _
-    (sym (c .before .before .before .before .before .before .before .before .before .before .before .before .before .before .before .before .takes .ensures) ∙ not-false _ (c .before .before .before .before .before .before .before .before .before .before .before .before .before .before .before .if1 .left))
+    (sym (m .before .takes .ensures) ∙ not-false _ (m .if1 .left))
     (extrapolate-is (length (a .e .now)) (a .new .now) (a .lpc .now) (mem .result) (f .last .0) (y .last .0) _ (a .lag) (a .first) (f .result)
     (mem .ensures)
     (f .ensures)
     (c .before .before .energy-guard .ensures .1)
     _
-    (accepted (c .before .before .before .before .before .before .before .before .before .before .before .before .before .before .before) .room)
+    (accepted m .room)
     (y .ensures))
 
 pub extrapolate-spec : {M : Type 1} → statement M

@@ -14,7 +14,8 @@ pair-takes-requires : tie.Need-pair-takes-requires
 pair-takes-requires c κs = search needs
 
 taken : (c : tie.Else1)
-    → let a = c .before .before .before .before .before .before .args in extrapolatePairTakes (length (a .e0 .now)) (length (a .e1 .now)) (length (a .new0 .now)) (length (a .new1 .now)) (a .lag) ≡ true
+    → let a = c .before .before .before .before .before .before .args in
+    extrapolatePairTakes (length (a .e0 .now)) (length (a .e1 .now)) (length (a .new0 .now)) (length (a .new1 .now)) (a .lag) ≡ true
 taken c = sym (c .before .pair-takes .ensures) ∙ not-false _ (c .if1 .left)
 
 -- what an accepted call may go by
@@ -55,19 +56,24 @@ same-length-2 c = search needs
 
 returns-2 : tie.Need-returns-2
 returns-2 c =
-    let a = c .before .before .before .before .before .before .before .before .before .before .before .before .before .before .before .before .before .before .before .before .before .before .before .before .before .before .before .before .before .before .before .before .before .before .before .args in
-    let y = c .before .before .before .before .before .before .before .before .before .before .before .before .celt-iir-pair in
-    let f1 = c .before .before .before .before .before .before .before .before .before .before .before .before .before .before .before .before .before .before .before .faded-cycle2 in
-    let f0 = c .before .before .before .before .before .before .before .before .before .before .before .before .before .before .before .before .before .before .before .before .before .before .before .before .faded-cycle in
-    let mem1 = c .before .before .before .before .before .before .before .before .before .before .before .before .before .before .before .before .before .before .before .before .before .before .before .before .before .before .before .most-recent2 in
-    let mem0 = c .before .before .before .before .before .before .before .before .before .before .before .before .before .before .before .before .before .before .before .before .before .before .before .before .before .before .before .before .most-recent in
-    let fits = accepted (c .before .before .before .before .before .before .before .before .before .before .before .before .before .before .before .before .before .before .before .before .before .before .before .before .before .before .before .before .before) in
+    let z = c .before .before .before .before .before .before .before .before .before .before .before .before in
+    let y = z .celt-iir-pair in
+    let v = z .before .before .before .before .before .before .before in
+    let f1 = v .faded-cycle2 in
+    let u = v .before .before .before .before .before in
+    let f0 = u .faded-cycle in
+    let r = u .before .before .before .before in
+    let mem1 = u .before .before .before .most-recent2 in
+    let mem0 = r .most-recent in
+    let m = r .before in
+    let a = m .before .before .before .before .before .before .args in
+    let fits = accepted m in
     reply-yes
     (extrapolatePairTakes (length (a .e0 .now)) (length (a .e1 .now)) (length (a .new0 .now)) (length (a .new1 .now)) (a .lag))
     (channels (extrapolated (length (a .e0 .now)) (a .new0 .now) (a .lag) (a .first) (a .lpc0 .now))
     (extrapolated (length (a .e1 .now)) (a .new1 .now) (a .lag) (a .first) (a .lpc1 .now)))
     _
-    (taken (c .before .before .before .before .before .before .before .before .before .before .before .before .before .before .before .before .before .before .before .before .before .before .before .before .before .before .before .before .before))
+    (taken m)
     (pair-is (length (a .e0 .now)) (a .new0 .now) (a .new1 .now) (a .lpc0 .now) (a .lpc1 .now) (mem0 .result) (mem1 .result) (f0 .last .0)
     (f1 .last .0)
     (y .last .0)

@@ -40,7 +40,10 @@ returns-2 c =
     let a = c .before .before .before .before .before .before .before .before .before .before .before .args in
     let h : length (a .frame .now) ≤ length (a .new .now) = search needs in
     reply-yes _ _ _ (le-leb _ _ h)
-    (roll-is (a .frame .now) (a .new .now) _ _ _ _ h refl refl (move-length (length (a .frame .now)) (a .new .now) _ h (c .before .before .before .before .before .before .move-back .ensures)) (c .before .before .before .before .before .before .move-back .ensures) (c .before .before .copy .ensures))
+    (roll-is (a .frame .now) (a .new .now) _ _ _ _ h refl refl
+    (move-length (length (a .frame .now)) (a .new .now) _ h (c .before .before .before .before .before .before .move-back .ensures))
+    (c .before .before .before .before .before .before .move-back .ensures)
+    (c .before .before .copy .ensures))
 
 pub roll-spec : {M : Type 1} → statement M
 roll-spec =

@@ -27,7 +27,9 @@ returns c =
     let s2 : Float = c .before .before .before .before .before .before .before .energy .result in
     let q : c .before .before .scale .last .0 ≡ map (times (backScale (a .s1) s2)) (a .e .now) =
     c .before .before .scale .ensures ∙ ap (λ z. map (times z) (a .e .now)) (c .before .before .before .before .sqrt-f32 .ensures) in
-    guard-scaled (a .s1) s2 (a .e .now) _ (c .before .before .before .before .before .before .before .energy .ensures) (c .before .before .before .before .before .before .if1 .taken) (c .before .before .before .before .before .if2 .taken) q
+    guard-scaled (a .s1) s2 (a .e .now) _ (c .before .before .before .before .before .before .before .energy .ensures) (c .before .before .before .before .before .before .if1 .taken)
+    (c .before .before .before .before .before .if2 .taken)
+    q
 
 same-length-2 : tie.Need-same-length-2
 same-length-2 c = search needs
@@ -46,7 +48,8 @@ same-length-3 c = search needs
 returns-3 : tie.Need-returns-3
 returns-3 c =
     let a = c .before .before .before .before .before .before .before .before .args in
-    guard-zeroed (a .s1) (c .before .before .before .before .before .energy .result) (a .e .now) _ (c .before .before .before .before .before .energy .ensures) (c .before .before .before .before .if1 .left) (c .before .before .fill .ensures)
+    let s2 = c .before .before .before .before .before .energy in
+    guard-zeroed (a .s1) (s2 .result) (a .e .now) _ (s2 .ensures) (c .before .before .before .before .if1 .left) (c .before .before .fill .ensures)
 
 pub energy-guard-spec : {M : Type 1} → statement M
 energy-guard-spec =

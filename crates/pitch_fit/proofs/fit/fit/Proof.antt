@@ -35,13 +35,12 @@ returns : tie.Need-returns
 returns c =
     let m = c .before .before .before .before .before .before .before .before .before .before .before .before .before .before .before .before .before in
     let a = m .args in
-    fit-is (a .new .now) _ (c .before .before .before .before .before .before .before .before .before .before .before .before .before .copy .last .0) (c .before .before .before .before .before .before .before .before .before .before .before .window .result) (c .before .before .before .before .before .before .before .before .celt-autocorr-windowed .result) (c .before .before .before .before .before .before .lag-window .last .0) (a .lpc .now) _ _ _
-    (m .pre .0)
-    refl
-    (c .before .before .before .before .before .before .before .before .before .before .before .before .before .copy .ensures)
-    (c .before .before .before .before .before .before .before .before .before .before .before .window .ensures)
-    (c .before .before .before .before .before .before .before .before .celt-autocorr-windowed .ensures)
-    (c .before .before .before .before .before .before .lag-window .ensures)
+    let x = c .before .before .before .before .before .before .before .before .before .before .before .before .before .copy in
+    let w = c .before .before .before .before .before .before .before .before .before .before .before .window in
+    let ac = c .before .before .before .before .before .before .before .before .celt-autocorr-windowed in
+    let b = c .before .before .before .before .before .before .lag-window in
+    fit-is (a .new .now) _ (x .last .0) (w .result) (ac .result) (b .last .0) (a .lpc .now) _ _ _ (m .pre .0) refl (x .ensures) (w .ensures) (ac .ensures)
+    (b .ensures)
     (m .pre .1)
     (c .before .before .celt-lpc .ensures)
 

@@ -52,7 +52,9 @@ part-take-in-end : tie.Need-part-take-in-end
 part-take-in-end c = search needs
 
 take-in-requires : tie.Need-take-in-requires
-take-in-requires c κs = (search needs, search needs, search needs, c .before .before .before .before .before .before .before .before .before .before .before .before .before .before .before .pre .1 .2)
+take-in-requires c κs =
+    let m = c .before .before .before .before .before .before .before .before .before .before .before .before .before .before .before in
+    (search needs, search needs, search needs, m .pre .1 .2)
 
 mul-take-in : tie.Need-mul-take-in
 mul-take-in c = search needs
@@ -68,13 +70,15 @@ part-take-in-end-2 c = search needs
 
 take-in-requires-2 : tie.Need-take-in-requires-2
 take-in-requires-2 c κs =
-    let m = c .before .before .before .before .before .before .before .before .before .before .before .before .before .before .before .before .before .before .before .before in
+    let z = c .before .before .before .before in
+    let x = z .before .before .before .before .before .before .before .extrapolate-pair in
+    let m = z .before .before .before .before .before .before .before .before .before .before .before .before .before .before .before .before in
     let h : List Float = m .args .h .now in
     let l : length h ≡ whole = m .pre .0 .0 in
-    let y : List Float = c .before .before .before .before .take-in .last .0 in
-    let s : length y ≡ half + overlap = c .before .before .before .before .take-in .kept .0 ∙ length-take-le (half + overlap) (drop half h) (omega (arith, length-drop half h)) in
+    let y : List Float = z .take-in .last .0 in
+    let s : length y ≡ half + overlap = z .take-in .kept .0 ∙ length-take-le (half + overlap) (drop half h) (omega (arith, length-drop half h)) in
     let p : length (put half (half + overlap) y h) ≡ length h = length-put half (half + overlap) y h s (omega arith) in
-    let k : length (c .before .before .before .before .before .before .before .before .before .before .before .extrapolate-pair .last .1 .0) ≡ length (m .args .e1 .now) = c .before .before .before .before .before .before .before .before .before .before .before .extrapolate-pair .kept .1 .0 in (
+    let k : length (x .last .1 .0) ≡ length (m .args .e1 .now) = x .kept .1 .0 in (
       length-take-le (half + overlap) (drop (channel + half) (put half (half + overlap) y h))
           (omega (arith, length-drop (channel + half) (put half (half + overlap) y h))),
       k ∙ m .pre .0 .2,
@@ -84,10 +88,12 @@ take-in-requires-2 c κs =
 
 same-length : tie.Need-same-length
 same-length c =
-    let h : List Float = c .before .before .before .before .before .before .before .before .before .before .before .before .before .before .before .before .before .before .before .before .before .before .before .args .h .now in
-    let l : length h ≡ whole = c .before .before .before .before .before .before .before .before .before .before .before .before .before .before .before .before .before .before .before .before .before .before .before .pre .0 .0 in
-    let y : List Float = c .before .before .before .before .before .before .before .take-in .last .0 in
-    let s : length y ≡ half + overlap = c .before .before .before .before .before .before .before .take-in .kept .0 ∙ length-take-le (half + overlap) (drop half h) (omega (arith, length-drop half h)) in
+    let z = c .before .before .before .before .before .before .before in
+    let m = z .before .before .before .before .before .before .before .before .before .before .before .before .before .before .before .before in
+    let h : List Float = m .args .h .now in
+    let l : length h ≡ whole = m .pre .0 .0 in
+    let y : List Float = z .take-in .last .0 in
+    let s : length y ≡ half + overlap = z .take-in .kept .0 ∙ length-take-le (half + overlap) (drop half h) (omega (arith, length-drop half h)) in
     let g : List Float = put half (half + overlap) y h in
     let p : length g ≡ length h = length-put half (half + overlap) y h s (omega arith) in
     let w : List Float = c .before .before .take-in2 .last .0 in
@@ -103,9 +109,10 @@ same-length-3 c = search needs
 
 returns : tie.Need-returns
 returns c =
-    let m = c .before .before .before .before .before .before .before .before .before .before .before .before .before .before .before .before .before .before .before .before .before .before .before in
+    let z = c .before .before .before .before .before .before .before .before .before .before .before .before .before .before in
+    let m = z .before .before .before .before .before .before .before .before .before in
     let a = m .args in
-    let x = c .before .before .before .before .before .before .before .before .before .before .before .before .before .before .extrapolate-pair in
+    let x = z .extrapolate-pair in
     both-is (a .n) (a .lag) (a .first) (a .filter) (a .h .now) (m .pre .0 .0) (m .pre .0 .3) (m .pre .1 .0) (m .pre .1 .1) (a .e0 .now) (a .e1 .now)
     (x .last .0)
     (x .last .1 .0)

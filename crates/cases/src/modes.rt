@@ -1,0 +1,47 @@
+// Ops 501 to 505: the band gain and the standard mode.
+use crate::streams;
+use custom_mode::gain;
+use custom_mode::rate;
+use custom_mode::rate::Factor;
+use custom_mode::standard;
+use float_bits::words::f32_from_word;
+
+fn answer_gain() -> bool {
+    let energy = streams::read_word();
+    let mean = streams::read_word();
+    if !mean.whole {
+        return false;
+    }
+    let e = f32_from_word(energy.value);
+    let m = f32_from_word(mean.value);
+    streams::write_float(gain::band_gain(e, m))
+}
+
+// 0 for none
+fn write_factor(f: Factor) -> bool {
+    match f {
+        Factor::By(n) => streams::write_number(n),
+        Factor::Nothing => streams::write_word(0),
+    }
+}
+
+fn answer_one(op: u32) -> bool {
+    let x = streams::read_word();
+    if !x.whole {
+        return false;
+    }
+    match op {
+        502 => write_factor(rate::resampling_factor(x.value)),
+        503 => streams::write_double(gain::power_at(x.value as u64)),
+        504 => streams::write_float(standard::mean_energy(x.value as usize)),
+        505 => streams::write_number(standard::band_edge(x.value as usize)),
+        _ => false,
+    }
+}
+
+pub(crate) fn answer(op: u32) -> bool {
+    match op {
+        501 => answer_gain(),
+        _ => answer_one(op),
+    }
+}

@@ -1,0 +1,67 @@
+// Ops 601 to 614: the window, the cosine table and the cosine sum.
+use crate::streams;
+use mdct::imdct;
+use mdct::window;
+use state::sizes::frame_size;
+
+fn answer_window() -> bool {
+    let i = streams::read_word();
+    let at = i.value as usize;
+    if !i.whole || 119 < at {
+        return false;
+    }
+    let w = window::window();
+    streams::write_float(w[at])
+}
+
+fn answer_long_window() -> bool {
+    let lm = streams::read_word();
+    let j = streams::read_word();
+    if !j.whole {
+        return false;
+    }
+    let w = window::window();
+    streams::write_float(window::low_overlap_window(&w, frame_size(lm.value), j.value as usize))
+}
+
+fn answer_cosine() -> bool {
+    let j = streams::read_word();
+    let at = j.value as usize;
+    if !j.whole || 1920 < at {
+        return false;
+    }
+    let c = cosine_table::cosines();
+    streams::write_double(c[at])
+}
+
+// The first n bins summed to the first m samples.
+fn sum(spectrum: &[f32], n: usize, out: &mut [f32], m: usize) -> bool {
+    let bins = streams::at_most(n, spectrum.len());
+    let samples = streams::at_most(m, out.len());
+    imdct::imdct_naive_f32(&spectrum[..bins], &mut out[..samples])
+}
+
+fn answer_sum(n: usize, m: usize) -> bool {
+    let mut spectrum = [0.0f32; 960];
+    if !streams::read_part(&mut spectrum, 0, n) {
+        return false;
+    }
+    let mut out = [0.0f32; 1920];
+    if !sum(&spectrum, n, &mut out, m) {
+        return false;
+    }
+    streams::write_first(&out, m)
+}
+
+pub(crate) fn answer(op: u32) -> bool {
+    match op {
+        601 => answer_window(),
+        602 => answer_long_window(),
+        603 => answer_cosine(),
+        611 => answer_sum(120, 240),
+        612 => answer_sum(240, 480),
+        613 => answer_sum(480, 960),
+        614 => answer_sum(960, 1920),
+        _ => false,
+    }
+}
