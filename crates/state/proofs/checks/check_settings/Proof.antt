@@ -1,4 +1,7 @@
 -- `state::checks::check_settings` meets its contract: the first of five.
+use mathlib.Core.Path.{ap, ap₂, _∙_}
+use mathlib.Core.Bool.{cond}
+use Rattle.state.specs.Settings.{orElse}
 use Rattle.state.specs.Settings.{checkSettings}
 use borrow.Author.Needs.{needs}
 use Rattle.state.proofs.checks.check_settings.Statement.{statement}
@@ -36,7 +39,12 @@ or-else-requires-4 c κs = search needs
 
 returns : tie.Need-returns
 unfolding checkSettings
-returns c = cc
+returns c =
+    let channels = c .before .before .before .before .before .before .before .before .unless2 .ensures ∙ ap (λ b. cond b 0 2) (c .before .before .before .before .before .before .before .before .before .is-within .ensures) in
+    let last = c .before .before .before .or-else .ensures ∙ ap₂ orElse (c .before .before .before .before .before .check-end .ensures) (c .before .before .before .before .check-downsample .ensures) in
+    let start = c .before .before .or-else2 .ensures ∙ ap₂ orElse (c .before .before .before .before .before .before .unless3 .ensures) last in
+    let rest = c .before .or-else3 .ensures ∙ ap₂ orElse channels start in
+    c .or-else4 .ensures ∙ ap₂ orElse (c .before .before .before .before .before .before .before .before .before .before .unless .ensures) rest
 
 pub check-settings-spec : {M : Type 1} → statement M
 check-settings-spec =

@@ -1,4 +1,7 @@
 -- `state::checks::check_state` meets its contract: the first of five.
+use mathlib.Core.Path.{ap, ap₂, _∙_}
+use mathlib.Core.Bool.{cond}
+use Rattle.state.specs.Settings.{orElse}
 use Rattle.state.specs.Refusal.{refusesState}
 use borrow.Author.Needs.{needs}
 use Rattle.state.proofs.checks.check_state.Statement.{statement}
@@ -36,7 +39,12 @@ or-else-requires-4 c κs = search needs
 
 returns : tie.Need-returns
 unfolding refusesState
-returns c = cc
+returns c =
+    let filter = c .before .before .before .before .before .unless2 .ensures ∙ ap (λ b. cond b 0 8) (c .before .before .before .before .before .before .filter-fits .ensures) in
+    let last = c .before .before .before .or-else .ensures ∙ ap₂ orElse filter (c .before .before .before .before .unless3 .ensures) in
+    let lag = c .before .before .or-else2 .ensures ∙ ap₂ orElse (c .before .before .before .before .before .before .before .check-lag .ensures) last in
+    let rest = c .before .or-else3 .ensures ∙ ap₂ orElse (c .before .before .before .before .before .before .before .before .unless .ensures) lag in
+    c .or-else4 .ensures ∙ ap₂ orElse (c .before .before .before .before .before .before .before .before .before .before .check-settings .ensures) rest
 
 pub check-state-spec : {M : Type 1} → statement M
 check-state-spec =

@@ -1,4 +1,8 @@
 -- `state::checks::first_refusal` meets its contract.
+use mathlib.Core.Path.{ap, ap₂, _∙_}
+use mathlib.Core.Bool.{cond}
+use lib.Dec.{leb}
+use Rattle.state.specs.Settings.{orElse}
 use Rattle.state.specs.Refusal.{refusal}
 use borrow.Author.Needs.{needs}
 use Rattle.state.proofs.checks.first_refusal.Statement.{statement}
@@ -18,7 +22,10 @@ or-else-requires c κs = search needs
 
 returns : tie.Need-returns
 unfolding refusal
-returns c = cc
+returns c =
+    let p = c .before .before .before .before .args .p in
+    let pcm = c .before .before .unless .ensures ∙ ap (λ n. cond (leb n p) 0 10) (c .before .before .before .needed-samples .ensures) in
+    c .or-else .ensures ∙ ap₂ orElse (c .before .check-state .ensures) pcm
 
 pub first-refusal-spec : {M : Type 1} → statement M
 first-refusal-spec =
