@@ -15,13 +15,13 @@ answer-record-requires c κs = search needs
 
 array-share-prefix-head : tie.Need-array-share-prefix-head
 array-share-prefix-head c =
-    let answer = c .before .before .answer-record in
+    let answer = c .before .before .before .answer-record in
     let most = answer-most _ _ _ _ _ (answer .ensures) in
     omega (arith, answer .kept .1 .0)
 
 slice-aggregate-written : tie.Need-slice-aggregate-written
 slice-aggregate-written c =
-    let answer = c .before .before .before .answer-record in
+    let answer = c .before .before .before .before .answer-record in
     let most = answer-most _ _ _ _ _ (answer .ensures) in
     sym (length-take-le _ _ (omega (arith, answer .kept .1 .0)))
 
