@@ -327,7 +327,8 @@ returns-3 c =
     let er : r ≡ reflection (h2 .lpc) (h2 .error) ac (h2 .i) =
     ap (λ z. div binary32 (neg (add binary32 z (getD ac (h2 .i + 1) nan))) (h2 .error)) (h3 .inv .1 ∙ ap (backTo (h2 .lpc) ac (h2 .i)) e3) in
     sym (pick-false _ _ _ (a2 .before .if1 .left)
-    ∙ stopped ac (length (g .lpc .now)) (h2 .i + 1) (h4 .lpc) _ (more ac (length (g .lpc .now)) (h2 .i) (h2 .lpc) (h4 .lpc) (h2 .error) r (h4 .j) true (h2 .inv .2) er (h4 .inv .3) e4 (c .if2 .taken)) (search needs))
+    ∙ stopped ac (length (g .lpc .now)) (h2 .i + 1) (h4 .lpc) _
+    (more ac (length (g .lpc .now)) (h2 .i) (h2 .lpc) (h4 .lpc) (h2 .error) r (h4 .j) true (h2 .inv .2) er (h4 .inv .3) e4 (c .if2 .taken)) (search needs))
 
 pub solve-spec : {M : Type 1} → statement M
 solve-spec =

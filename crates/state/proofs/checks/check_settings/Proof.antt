@@ -40,11 +40,16 @@ or-else-requires-4 c κs = search needs
 returns : tie.Need-returns
 unfolding checkSettings
 returns c =
-    let channels = c .before .before .before .before .before .before .before .before .unless2 .ensures ∙ ap (λ b. cond b 0 2) (c .before .before .before .before .before .before .before .before .before .is-within .ensures) in
-    let last = c .before .before .before .or-else .ensures ∙ ap₂ orElse (c .before .before .before .before .before .check-end .ensures) (c .before .before .before .before .check-downsample .ensures) in
-    let start = c .before .before .or-else2 .ensures ∙ ap₂ orElse (c .before .before .before .before .before .before .unless3 .ensures) last in
-    let rest = c .before .or-else3 .ensures ∙ ap₂ orElse channels start in
-    c .or-else4 .ensures ∙ ap₂ orElse (c .before .before .before .before .before .before .before .before .before .before .unless .ensures) rest
+    let joined = c .before .before .before in
+    let downsample = joined .before in
+    let end = downsample .before in
+    let start = end .before in
+    let channels = start .before .before in
+    let both = channels .unless2 .ensures ∙ ap (λ b. cond b 0 2) (channels .before .is-within .ensures) in
+    let last = joined .or-else .ensures ∙ ap₂ orElse (end .check-end .ensures) (downsample .check-downsample .ensures) in
+    let later = c .before .before .or-else2 .ensures ∙ ap₂ orElse (start .unless3 .ensures) last in
+    let rest = c .before .or-else3 .ensures ∙ ap₂ orElse both later in
+    c .or-else4 .ensures ∙ ap₂ orElse (channels .before .before .unless .ensures) rest
 
 pub check-settings-spec : {M : Type 1} → statement M
 check-settings-spec =
