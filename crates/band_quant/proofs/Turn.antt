@@ -10,7 +10,7 @@ use Rattle.loops.specs.Sum.{sumTo, sum-more}
 use Rattle.buffers.specs.Buffers.{times}
 use Rattle.float_bits.specs.Words.{noiseValue, wrappingMul}
 use Rattle.float_bits.specs.Formats.{narrow}
-use Rattle.float_bits.specs.Root.{sqrtOf}
+use Rattle.float_root.specs.Root.{sqrtOf}
 use Rattle.band_quant.specs.Draw.{draw, draws, draws-more}
 use Rattle.band_quant.specs.Noise.{noiseAt}
 use Rattle.band_quant.specs.Renormalise.{square64At, floor64, energy64, factorOf, renormaliseVector}

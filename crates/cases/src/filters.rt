@@ -1,9 +1,9 @@
 // Ops 201 to 208: sums over a signal, the predictor, the two filters.
 use crate::streams;
 use plc::autocorr;
-use plc::lpc;
 use plc_filter::fir;
 use plc_filter::iir;
+use plc_lpc::celt_lpc;
 
 fn answer_autocorr() -> bool {
     let mut x = [0.0f32; 1024];
@@ -29,7 +29,7 @@ fn answer_lpc(ac: &mut [f32], coefficients: &mut [f32]) -> bool {
     if !streams::read_floats(ac) {
         return false;
     }
-    let solved = lpc::celt_lpc(coefficients, ac);
+    let solved = celt_lpc(coefficients, ac);
     if !solved.taken {
         return false;
     }

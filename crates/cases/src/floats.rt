@@ -2,15 +2,15 @@
 use crate::streams;
 use float_bits::extremes;
 use float_bits::formats;
-use float_bits::root;
 use float_bits::words::f32_from_word;
 use float_bits::words::noise_value;
 use float_bits::words::wrapping_mul_u32;
+use float_root::sqrt_f32;
 
 fn answer_one(op: u32, x: u32) -> bool {
     let v = f32_from_word(x);
     match op {
-        103 => streams::write_float(root::sqrt_f32(v)),
+        103 => streams::write_float(sqrt_f32(v)),
         105 => streams::write_double(formats::f32_to_f64(v)),
         106 => streams::write_float(v),
         107 => streams::write_float(noise_value(x)),

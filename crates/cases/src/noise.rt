@@ -2,7 +2,7 @@
 use crate::streams;
 use noise_block::Drawn;
 use noise_block::noise_block;
-use noise_loss::energies;
+use noise_energies::lower_energies;
 use noise_loss::noise_loss;
 use state::Settings;
 
@@ -80,7 +80,7 @@ fn answer_channel() -> bool {
 
 // Four words ahead of the energies: channels, start, end and loss count.
 fn lowered(w: [u32; 4], coarse: [f32; 50]) -> [f32; 50] {
-    energies::lower_energies(coarse, w[0] as usize, w[1] as usize, w[2] as usize, w[3])
+    lower_energies(coarse, w[0] as usize, w[1] as usize, w[2] as usize, w[3])
 }
 
 fn answer_energies() -> bool {

@@ -1,7 +1,8 @@
 // Ops 601 to 614: the window, the cosine table and the cosine sum.
 use crate::streams;
+use celt_window::low_overlap_window;
+use celt_window::window;
 use mdct::imdct;
-use mdct::window;
 use state::sizes::frame_size;
 
 fn answer_window() -> bool {
@@ -10,7 +11,7 @@ fn answer_window() -> bool {
     if !i.whole || 119 < at {
         return false;
     }
-    let w = window::window();
+    let w = window();
     streams::write_float(w[at])
 }
 
@@ -20,8 +21,8 @@ fn answer_long_window() -> bool {
     if !j.whole {
         return false;
     }
-    let w = window::window();
-    streams::write_float(window::low_overlap_window(&w, frame_size(lm.value), j.value as usize))
+    let w = window();
+    streams::write_float(low_overlap_window(&w, frame_size(lm.value), j.value as usize))
 }
 
 fn answer_cosine() -> bool {

@@ -32,5 +32,5 @@ pub(crate) fn pitch_decay(exc: &[f32], lag: usize) -> f32
         e2 = e2 + b * b;
     }
     let low = float_bits::extremes::min_f32(e1, e2);
-    float_bits::root::sqrt_f32(low / e2)
+    float_root::sqrt_f32(low / e2)
 }

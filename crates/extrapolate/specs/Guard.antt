@@ -4,7 +4,7 @@ use mathlib.Core.Bool.{Bool, true, false, cond, not}
 use mathlib.Core.List.{List, map}
 use lib.ListN.{length, replicate, length-map, length-replicate}
 use lib.Ieee.{Float, binary32, add, mul, div, lt, ofBits}
-use Rattle.float_bits.specs.Root.{sqrtOf}
+use Rattle.float_root.specs.Root.{sqrtOf}
 use Rattle.buffers.specs.Buffers.{zero32, one32, times, energy}
 
 -- 0.2

@@ -15,7 +15,7 @@ pub(crate) fn energy_guard(e: &mut [f32], s1: f32) -> Guarded
     let s2 = buffers::energy(e, 0.0);
     if s1 > 0.2 * s2 {
         if s1 < s2 {
-            let ratio = float_bits::root::sqrt_f32((s1 + 1.0) / (s2 + 1.0));
+            let ratio = float_root::sqrt_f32((s1 + 1.0) / (s2 + 1.0));
             buffers::scale(e, ratio);
         }
         return Guarded { muted: false };

@@ -1,16 +1,10 @@
--- The marked edges of square roots and of rounding to f32, by computation.
+-- The marked edges of rounding to f32, by computation.
 use mathlib.Core.Path.{_≡_, refl}
 use Prim.Native.Nat.{_+_, _^_}
 use mathlib.Core.Bool.{false}
 use lib.IntN.{pos, negsuc}
-use lib.Ieee.{fin, binary32, toBits, round}
-use Rattle.float_bits.specs.Root.{sqrtOf, twiceRoot, rootTo}
+use lib.Ieee.{fin, round}
 use Rattle.float_bits.specs.Formats.{narrow}
-
--- 4 gives 2, and 2 gives the bits 3FB504F3
-pub marked-roots : (sqrtOf (fin false 1 (pos 2)) ≡ fin false 1 (pos 1)) × (toBits binary32 (sqrtOf (fin false 1 (pos 1))) ≡ 0x3fb5_04f3)
-unfolding sqrtOf twiceRoot rootTo round toBits
-marked-roots = (refl, refl)
 
 -- 1 + 2 ^ -24 gives 1, and 1 + 3 * 2 ^ -24 gives 1 + 2 ^ -22
 pub marked-rounding : (narrow (fin false (2 ^ 24 + 1) (negsuc 23)) ≡ fin false 1 (pos 0)) × (narrow (fin false (2 ^ 24 + 3) (negsuc 23)) ≡ fin false (2 ^ 22 + 1) (negsuc 21))

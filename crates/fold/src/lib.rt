@@ -5,7 +5,7 @@ ghost use lib.Dec.{leb};
 ghost use lib.ListN.{length};
 ghost use Rattle.loops.specs.Reply.{reply, replyIf};
 ghost use Rattle.history.specs.History.{overlap};
-ghost use Rattle.mdct.specs.Window.{window};
+ghost use Rattle.celt_window.specs.Window.{window};
 ghost use Rattle.fold.specs.Roll.{movedBack, rolled};
 ghost use Rattle.fold.specs.Fold.{fromEnd, foldAt, folded, foldTakes};
 use history::OVERLAP;
@@ -76,7 +76,7 @@ pub fn fold_tail(over: &mut [f32], x: &[f32]) -> bool
     if x.len() != OVERLAP {
         return false;
     }
-    let w = mdct::window::window();
+    let w = celt_window::window();
     fold_in(over, &w, x);
     true
 }

@@ -9,7 +9,7 @@ use lib.Seq.{slice, length-slice, length-take-le, take-at, drop-at, drop-drop, t
 use lib.Ieee.{Float, eq, binary32, ofBits}
 use Rattle.loops.specs.Fold.{foldTo, fold-keeps}
 use Rattle.loops.specs.Part.{put, take-put, drop-put, length-put}
-use Rattle.mdct.specs.Window.{window}
+use Rattle.celt_window.specs.Window.{window}
 use Rattle.history.proofs.Parts.{slice-take, TailSized}
 use Rattle.history.specs.History.{half, overlap, Tail, tailList, tailOf}
 use Rattle.post_filter.specs.declared.Filter.{Filter}

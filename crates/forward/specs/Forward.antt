@@ -7,7 +7,7 @@ use lib.Seq.{slice}
 use lib.Ieee.{Float, nan, binary32, add, mul, eq, ofBits}
 use Rattle.loops.specs.Fold.{foldTo}
 use Rattle.loops.specs.Part.{put}
-use Rattle.mdct.specs.Window.{window}
+use Rattle.celt_window.specs.Window.{window}
 use Rattle.history.specs.History.{half, overlap, Tail, tailList, tailOf}
 use Rattle.post_filter.specs.Comb.{combGains, pairAt, preFilteredEnd}
 use Rattle.post_filter.specs.declared.Filter.{Filter}

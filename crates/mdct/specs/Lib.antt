@@ -1,6 +1,3 @@
--- The window and the inverse transform.
-pub mod Window
-pub mod LongWindow
-pub mod WindowRules
+-- The inverse transform.
 pub mod Imdct
 pub mod Circle

@@ -1,3 +1,2 @@
-// The window and the inverse transform.
+// The inverse transform.
 pub mod imdct;
-pub mod window;

@@ -9,7 +9,7 @@ use Rattle.buffers.specs.Buffers.{zero32}
 use Rattle.band_quant.specs.Draw.{draws}
 use Rattle.custom_mode.specs.Mode.{shortBlock, overlap, bands, lastEdge, edge}
 use Rattle.mdct.specs.Imdct.{imdct}
-use Rattle.mdct.specs.Window.{window, lowOverlapWindow}
+use Rattle.celt_window.specs.Window.{window, lowOverlapWindow}
 use Rattle.noise_block.specs.Shape.{noiseShape, noise-seed}
 use Rattle.noise_block.specs.Spectrum.{spectrum}
 

@@ -1,9 +1,9 @@
 // The block of N + 120 samples.
+use celt_window::low_overlap_window;
+use celt_window::window;
 use custom_mode::standard::OVERLAP;
 use custom_mode::standard::SHORT_BLOCK;
 use mdct::imdct::imdct_naive_f32;
-use mdct::window::low_overlap_window;
-use mdct::window::window;
 ghost use mathlib.Core.Path.{_≡_};
 ghost use mathlib.Core.Bool.{true};
 ghost use Prim.Native.Nat.{_+_, _*_, _≤_};

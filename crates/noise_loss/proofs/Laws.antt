@@ -1,39 +1,14 @@
--- What the loops of energies and blocks rest on.
+-- What laying a block over a tail rests on.
 use mathlib.Core.Path.{_≡_, ap, ap₂, _∙_, sym}
 use mathlib.Core.List.{List, [], _++_, append-nil}
-use mathlib.Core.Bool.{cond}
-use Prim.Native.Nat.{ℕ, _+_, _-_, _≤_, _<_}
+use Prim.Native.Nat.{ℕ, _+_, _-_, _≤_}
 use native.Mathlib.Omega.{arith}
-use lib.ListN.{length, getD, set, take, drop, length-drop, drop-of-length-le}
+use lib.ListN.{length, getD, take, drop, length-drop, drop-of-length-le}
 use lib.Seq.{getD-append-add, getD-drop, take-all, take-at}
-use lib.Dec.{leb}
-use lib.Ieee.{Float, nan, binary32, sub, add}
-use borrow.Author.Tests.{lt-leb}
-use Rattle.loops.specs.Front.{front, tab, length-tab, tab-read, tab-more, tab-all}
-use Rattle.loops.specs.Pick.{pick-false}
+use lib.Ieee.{Float, nan, binary32, add}
+use Rattle.loops.specs.Front.{front, tab, length-tab}
 use Rattle.buffers.specs.Buffers.{copied, copied-all}
 use Rattle.noise_loss.specs.Cover.{overlapped}
-use Rattle.noise_loss.specs.Energies.{energyDrop, drops, droppedAt, lowerEnergies}
-
--- ---- energies
-
-module _ (channels start end count : ℕ) (e₀ e : List Float) (i : ℕ) (w : e ≡ front (tab (droppedAt channels start end count e₀) i) e₀ i) where
-  pub lower-more : (by r : Float) → by ≡ energyDrop count → i < length e₀
-      → r ≡ cond (drops channels start end i) (sub binary32 (getD e i nan) by) (getD e i nan)
-      → set e i r ≡ front (tab (droppedAt channels start end count e₀) (i + 1)) e₀ (i + 1)
-  unfolding droppedAt
-  lower-more by r p h q =
-      let f : ℕ → Float = droppedAt channels start end count e₀ in
-      tab-more f nan e₀ e i w r
-      (q ∙ ap₂ (λ x y. cond (drops channels start end i) (sub binary32 x y) x) (tab-read f nan e₀ e i w h) p) h
-
-  pub lower-all : length e₀ ≡ i → count < 5 → e ≡ lowerEnergies channels start end count e₀
-  unfolding lowerEnergies
-  lower-all l h =
-      tab-all (droppedAt channels start end count e₀) nan e₀ e i w l
-      ∙ sym (pick-false (leb 5 count) e₀ (tab (droppedAt channels start end count e₀) (length e₀)) (lt-leb 5 count h))
-
--- ---- the block over the history
 
 -- what stands at k is not yet written
 pub front-later : (d : Float) (xs b out : List Float) (i k : ℕ) → b ≡ front out xs i → length out ≡ i → i ≤ k → getD b k d ≡ getD xs k d

@@ -1,4 +1,3 @@
--- The noise path of one loss: energies, and the blocks over a history.
-pub mod Energies
+-- A noise loss: the blocks over a history.
 pub mod Cover
 pub mod Loss

@@ -1,4 +1,4 @@
-// The noise path of one loss: energies, and a noise block over each used channel's newest samples.
+// A noise loss: a noise block over each used channel's newest samples.
 ghost use mathlib.Core.Path.{_≡_};
 ghost use Prim.Native.Nat.{_+_, _≤_};
 ghost use lib.ListN.{length};
@@ -16,7 +16,6 @@ use state::checks::settings_pass;
 use state::sizes::frame_size;
 
 mod cover;
-pub mod energies;
 
 // The longest block: a frame of 960 samples and the overlap.
 const BLOCK_MOST: usize = 1080;

@@ -15,9 +15,9 @@ use Rattle.loops.specs.Reply.{reply, replyIf, reply-lent}
 use Rattle.buffers.specs.Buffers.{copied, copied-all}
 use Rattle.history.specs.History.{half, samples, channel, whole, tailAt, tails}
 use Rattle.history.proofs.Parts.{slice-take}
-use Rattle.mdct.specs.Window.{window}
+use Rattle.celt_window.specs.Window.{window}
 use Rattle.plc.specs.Autocorr.{celtAutocorr, windowedEnds, length-celtAutocorr}
-use Rattle.plc.specs.Lpc.{celtLpc}
+use Rattle.plc_lpc.specs.Lpc.{celtLpc}
 use Rattle.plc.specs.LagWindow.{lagWindow, length-lagWindow}
 use Rattle.plc_search.specs.Search.{pitchSearch}
 use Rattle.plc_search.specs.Offset.{offset-le}

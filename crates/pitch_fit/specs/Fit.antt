@@ -7,9 +7,9 @@ use lib.ListN.{length, drop}
 use lib.Dec.{eqb}
 use lib.Ieee.{Float}
 use Rattle.history.specs.History.{half, Tails}
-use Rattle.mdct.specs.Window.{window}
+use Rattle.celt_window.specs.Window.{window}
 use Rattle.plc.specs.Autocorr.{celtAutocorr, windowedEnds}
-use Rattle.plc.specs.Lpc.{celtLpc, length-celtLpc}
+use Rattle.plc_lpc.specs.Lpc.{celtLpc, length-celtLpc}
 use Rattle.plc.specs.LagWindow.{lagWindow}
 
 -- how many coefficients a predictor has

@@ -15,10 +15,10 @@ fn fit(new: &[f32], lpc: &mut [f32])
 {
     let mut x = [0.0f32; HALF];
     buffers::copy(&mut x, new);
-    let w = mdct::window::window();
+    let w = celt_window::window();
     let mut ac = plc::autocorr::celt_autocorr_windowed(&x, &w);
     plc::lag_window::lag_window(&mut ac);
-    plc::lpc::celt_lpc(lpc, &ac);
+    plc_lpc::celt_lpc(lpc, &ac);
 }
 
 // 24 coefficients from a channel's newest 1,024 samples; other lengths are refused, and lpc stays.

@@ -15,7 +15,7 @@ use Rattle.loops.specs.Reply.{reply, replyIf, reply-lent}
 use Rattle.history.specs.History.{half, samples, overlap, channel, whole, Tail, Tails, tailAt, tails, withTails, tailList, tailOf}
 use Rattle.history.specs.History as History
 use Rattle.history.proofs.Parts.{TailSized, Sized, slice-take, tails-sized, lent-first, lent-second, tailOf-list, with-length, tails-with, put-first, put-both}
-use Rattle.mdct.specs.Window.{window}
+use Rattle.celt_window.specs.Window.{window}
 use Rattle.plc_filter.specs.Iir.{Channels, channels}
 use Rattle.post_filter.specs.declared.Filter.{Filter}
 use Rattle.post_filter.specs.Limits.{filterFits}

@@ -7,7 +7,7 @@ use lib.Seq.{slice}
 use lib.Dec.{eqb, leb}
 use lib.Ieee.{Float}
 use Rattle.history.specs.History.{overlap, whole, Tail, Tails}
-use Rattle.mdct.specs.Window.{window}
+use Rattle.celt_window.specs.Window.{window}
 use Rattle.post_filter.specs.declared.Filter.{Filter}
 use Rattle.post_filter.specs.Limits.{filterFits}
 use Rattle.post_filter.specs.Comb.{preFiltered}

@@ -1,3 +1,2 @@
 -- laws that several proofs cite
 mod Lags
-mod Turn

@@ -4,7 +4,3 @@ use lib.Ieee.{Float, binary32, ofBits}
 -- 10.0, the noise floor of the first correlation
 abbrev pub floor32 : Float
 floor32 = ofBits binary32 0x4120_0000
-
--- 0.001, the part of the first correlation at which the predictor stops
-abbrev pub small32 : Float
-small32 = ofBits binary32 0x3a83_126f

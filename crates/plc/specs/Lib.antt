@@ -2,4 +2,3 @@
 pub mod Const
 pub mod Autocorr
 pub mod LagWindow
-pub mod Lpc

@@ -9,7 +9,7 @@ use lib.Ieee.{Float, nan, binary32, add, mul, ofBits}
 use Rattle.loops.specs.Fold.{foldTo}
 use Rattle.loops.specs.Front.{tab, length-tab}
 use Rattle.plc.specs.Autocorr.{celtAutocorr}
-use Rattle.plc.specs.Lpc.{celtLpc}
+use Rattle.plc_lpc.specs.Lpc.{celtLpc}
 use Rattle.plc_filter.specs.Fir.{celtFir, length-celtFir}
 use Rattle.buffers.specs.Buffers.{zero32, one32}
 use Rattle.plc.specs.LagWindow.{lagWindow}

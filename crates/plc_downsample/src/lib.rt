@@ -74,7 +74,7 @@ fn whitening(lp: &[f32; 1024]) -> [f32; 4]
     let mut ac = plc::autocorr::celt_autocorr(lp);
     lag_window(&mut ac);
     let mut lpc = [0.0f32; 4];
-    plc::lpc::celt_lpc(&mut lpc, &ac);
+    plc_lpc::celt_lpc(&mut lpc, &ac);
     damp(&mut lpc);
     lpc
 }

@@ -20,7 +20,7 @@ use Rattle.plc_search.specs.Offset.{offset-le}
 use Rattle.pitch_fit.specs.Lag.{lagOf, lowPassed}
 use Rattle.pitch_fit.specs.Fit.{fittedTo}
 use Rattle.pitch_loss.specs.PitchLoss.{pitchTails, pitchTakes}
-use Rattle.noise_loss.specs.Energies.{lowerEnergies, readEnergies}
+use Rattle.noise_energies.specs.Energies.{lowerEnergies, readEnergies}
 use Rattle.noise_loss.specs.Loss.{Noised, noised, afterNoise, noiseTakes}
 use Rattle.ref_decode.specs.Loss.{lowered, blocks, noiseMade, pitchMade, tailsByNoise, tailsByPitch}
 use Rattle.ref_decode.specs.declared.Made.{Made}

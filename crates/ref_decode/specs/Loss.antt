@@ -17,7 +17,7 @@ use Rattle.state.specs.declared.Answer.{Answer}
 use Rattle.pitch_fit.specs.Lag.{lagOf}
 use Rattle.pitch_fit.specs.Fit.{fittedTo}
 use Rattle.pitch_loss.specs.PitchLoss.{pitchTails}
-use Rattle.noise_loss.specs.Energies.{lowerEnergies, readEnergies}
+use Rattle.noise_energies.specs.Energies.{lowerEnergies, readEnergies}
 use Rattle.noise_loss.specs.Loss.{Blocks, noiseBlocks, noiseSeed, noiseTails}
 use Rattle.deemphasis.specs.Deemphasis.{Sound, sound, deemphasis}
 use Rattle.ref_decode.specs.declared.Made.{Made}

@@ -6,8 +6,8 @@ ghost use Rattle.state.specs.Refusal.{refusesState};
 ghost use Rattle.ref_decode.specs.Loss.{noiseMade, tailsByNoise};
 use crate::Made;
 use crate::NOISE_KIND;
-use noise_loss::energies::lower_energies;
-use noise_loss::energies::read_energies;
+use noise_energies::lower_energies;
+use noise_energies::read_energies;
 use noise_loss::noise_loss;
 use state::State;
 

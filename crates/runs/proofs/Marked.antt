@@ -6,7 +6,8 @@ use Prim.Native.Nat.{ℕ, zero, suc}
 use native.Mathlib.Omega.{arith}
 use lib.ListN.{length}
 use lib.Ieee.{Float}
-use Rattle.float_bits.specs.Marked.{marked-roots, marked-rounding}
+use Rattle.float_bits.specs.Marked.{marked-rounding}
+use Rattle.float_root.specs.Marked.{marked-roots}
 use Rattle.band_quant.specs.Draw.{draws}
 use Rattle.band_quant.specs.Marked.{drawn, heard}
 use Rattle.custom_mode.specs.Mode.{edges, edge}

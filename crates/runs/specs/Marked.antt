@@ -5,7 +5,7 @@ use mathlib.Core.List.{List, [], _∷_}
 use Prim.Native.Nat.{ℕ, _+_, _^_}
 use lib.IntN.{pos, negsuc}
 use lib.Ieee.{Float, nan, fin, binary32, ofBits, toBits, neg}
-use Rattle.float_bits.specs.Root.{sqrtOf}
+use Rattle.float_root.specs.Root.{sqrtOf}
 use Rattle.float_bits.specs.Formats.{narrow}
 use Rattle.band_quant.specs.Draw.{draws}
 use Rattle.band_quant.specs.Noise.{noiseBand}

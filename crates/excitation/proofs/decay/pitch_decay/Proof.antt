@@ -7,7 +7,7 @@ use Rattle.excitation.specs.Decay.{decayPeriod, periodEnergy, decayOf, p
 use Rattle.buffers.specs.Buffers.{squareAt}
 use Rattle.history.specs.History.{half}
 use Rattle.loops.specs.Sum.{sum-none, sum-more}
-use Rattle.float_bits.specs.Root.{sqrtOf}
+use Rattle.float_root.specs.Root.{sqrtOf}
 use Rattle.excitation.proofs.decay.pitch_decay.Statement.{statement}
 use Rattle.excitation.proofs.decay.pitch_decay.Tie as tie
 

@@ -5,7 +5,7 @@ use lib.ListN.{length, getD, length-set}
 use borrow.Author.Needs.{needs}
 use lib.Ieee.{nan, binary32, ofBits, mul}
 use Rattle.loops.specs.Front.{front, tab, tab-none, tab-more, tab-all}
-use Rattle.mdct.specs.Window.{lowOverlapWindow}
+use Rattle.celt_window.specs.Window.{lowOverlapWindow}
 use Rattle.noise_block.specs.Block.{windowed}
 use Rattle.noise_block.proofs.block.window_outputs.Statement.{statement}
 use Rattle.noise_block.proofs.block.window_outputs.Tie as tie

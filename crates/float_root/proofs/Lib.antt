@@ -1,0 +1,5 @@
+mod Roots
+mod Sqrt
+mod Classify
+pub mod Nearest
+pub mod Settled

@@ -1,0 +1,2 @@
+-- Which energies a noise loss reads, and which drop.
+pub mod Energies

@@ -1,0 +1,2 @@
+-- The linear predictor.
+pub mod Lpc
