@@ -79,14 +79,6 @@ module _ (a : ℕ) (x y : List Float) (s : Agree a x y) where
       tab-same _ _ n
       (λ i _. ap (mul binary32 (decayAt lag d i)) (s (positionAt lag i) (omega (arith, position-ge lag i))))
 
--- a position of the excitation, and none before the last cycle
-pub stepped-lt : (lag p : ℕ) → p < half → 0 < lag → stepped lag p < half
-unfolding stepped
-stepped-lt lag p h g = go (eqb (p + 1) half) refl
-  where
-    go : (b : Bool) → eqb (p + 1) half ≡ b → cond b (p + 1 - lag) (p + 1) < half
-    go true e = omega arith
-    go false e = omega (arith, eqb-false (p + 1) half e)
 
 -- a copy of the samples, filtered in place from a place on
 pub whitened-is : (from : ℕ) (lpc new mem x₀ x y : List Float) (t : Bool) → length lpc ≡ 24 → length mem ≡ 24 → length new ≡ half → length x₀ ≡ half

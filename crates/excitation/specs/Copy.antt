@@ -1,10 +1,12 @@
 -- The last cycle of the excitation repeated, the decay squared at each wrap.
-use mathlib.Core.Path.{_≡_, ap, _∙_, sym}
-use Prim.Native.Nat.{ℕ, _+_, _-_}
-use mathlib.Core.Bool.{cond}
+use mathlib.Core.Path.{_≡_, refl, ap, _∙_, sym}
+use Prim.Native.Nat.{ℕ, zero, suc, _+_, _-_, _<_}
+use native.Mathlib.Omega.{arith}
+use mathlib.Core.Bool.{Bool, true, false, cond}
 use mathlib.Core.List.{List}
 use lib.ListN.{getD, length}
 use lib.Dec.{eqb}
+use borrow.Author.Tests.{eqb-false}
 use lib.Ieee.{Float, nan, binary32, mul}
 use Rattle.loops.specs.Fold.{foldTo, fold-more, fold-none}
 use Rattle.loops.specs.Front.{tab, length-tab}
@@ -45,6 +47,21 @@ pub decay-more : (lag : ℕ) (d x : Float) (p i : ℕ) → p ≡ positionAt lag 
 unfolding decayAt
 decay-more lag d x p i q e =
     ap (λ z. decayed z x) q ∙ fold-more (λ (x : Float) (k : ℕ). decayed (positionAt lag k) x) d x i e
+
+-- a step stays within the excitation
+pub stepped-lt : (lag p : ℕ) → p < half → 0 < lag → stepped lag p < half
+unfolding stepped
+stepped-lt lag p h g = go (eqb (p + 1) half) refl
+  where
+    go : (b : Bool) → eqb (p + 1) half ≡ b → cond b (p + 1 - lag) (p + 1) < half
+    go true e = omega arith
+    go false e = omega (arith, eqb-false (p + 1) half e)
+
+-- so every sample's position is one of 0 to 1,023
+pub position-in : (lag i : ℕ) → 0 < lag → positionAt lag i < half
+unfolding positionAt foldTo
+position-in lag zero h = omega arith
+position-in lag (suc i) h = stepped-lt lag (positionAt lag i) (position-in lag i h) h
 
 unfoldable pub periodicCopy : List Float → ℕ → Float → ℕ → List Float
 periodicCopy exc lag d n = tab (λ (i : ℕ). mul binary32 (decayAt lag d i) (getD exc (positionAt lag i) nan)) n

@@ -268,8 +268,15 @@ silent-pair x y a b =
     tab-zero (λ (i : ℕ). add binary32 (smoothedAt x i) (smoothedAt y i))
     (λ i h. sum-zero (smoothedAt x i) (smoothedAt y i) (smoothed-zero x a i h) (smoothed-zero y b i h))
 
+-- either channel of NaN is enough
 pub nan-pair : (x y : List Float) → Each (λ v. v ≡ nan) 2048 y → 720 - pitchSearch (pitchDownsamplePair x y) ≡ 720
 unfolding pitchDownsamplePair smoothedPair
 nan-pair x y b =
     tab-nan (λ (i : ℕ). add binary32 (smoothedAt x i) (smoothedAt y i))
     (λ i h. ap (add binary32 (smoothedAt x i)) (smoothed-nan y b i h) ∙ add-nan (smoothedAt x i))
+
+pub nan-pair-first : (x y : List Float) → Each (λ v. v ≡ nan) 2048 x → 720 - pitchSearch (pitchDownsamplePair x y) ≡ 720
+unfolding pitchDownsamplePair smoothedPair add
+nan-pair-first x y a =
+    tab-nan (λ (i : ℕ). add binary32 (smoothedAt x i) (smoothedAt y i))
+    (λ i h. ap (λ z. add binary32 z (smoothedAt y i)) (smoothed-nan x a i h))

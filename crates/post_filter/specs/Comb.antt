@@ -1,5 +1,5 @@
 -- The pre-filter of the overlap, by the taps one pitch period back.
-use mathlib.Core.Path.{_≡_, _∙_, ap}
+use mathlib.Core.Path.{_≡_, refl, _∙_, ap}
 use Prim.Native.Nat.{ℕ, zero, suc, _+_, _-_}
 use native.Mathlib.Omega.{arith}
 use mathlib.Core.Bool.{Bool, true, false, cond, _&&_}
@@ -49,6 +49,32 @@ length-combFilterTo x t g0 g1 g2 = length-tab _ overlap
 unfoldable pub preFiltered : Filter → List Float → List Float → List Float
 preFiltered f new over =
     cond (eq (f .gain) (ofBits binary32 0)) over (combFilterTo (new ++ over) (f .period) (tapGain f 0) (tapGain f 1) (tapGain f 2))
+
+-- both zeros skip it; a NaN and a gain below zero do not
+module _ (f : Filter) (new over : List Float) where
+  filtered : List Float
+  filtered = combFilterTo (new ++ over) (f .period) (tapGain f 0) (tapGain f 1) (tapGain f 2)
+
+  by-gain : (g : Float) (b : Bool) → eq g (ofBits binary32 0) ≡ b → f .gain ≡ g → preFiltered f new over ≡ cond b over filtered
+  unfolding preFiltered filtered
+  by-gain g b e q = ap (λ z. cond z over filtered) (ap (λ z. eq z (ofBits binary32 0)) q ∙ e)
+
+  pub zero-skips : f .gain ≡ ofBits binary32 0 → preFiltered f new over ≡ over
+  unfolding eq ofBits
+  zero-skips q = by-gain (ofBits binary32 0) true refl q
+
+  pub minus-zero-skips : f .gain ≡ neg (ofBits binary32 0) → preFiltered f new over ≡ over
+  unfolding eq neg ofBits
+  minus-zero-skips q = by-gain (neg (ofBits binary32 0)) true refl q
+
+  pub nan-filters : f .gain ≡ nan → preFiltered f new over ≡ combFilterTo (new ++ over) (f .period) (tapGain f 0) (tapGain f 1) (tapGain f 2)
+  unfolding eq filtered
+  nan-filters q = by-gain nan false refl q
+
+  pub minus-one-filters : f .gain ≡ neg (ofBits binary32 0x3f80_0000)
+      → preFiltered f new over ≡ combFilterTo (new ++ over) (f .period) (tapGain f 0) (tapGain f 1) (tapGain f 2)
+  unfolding eq neg ofBits filtered
+  minus-one-filters q = by-gain (neg (ofBits binary32 0x3f80_0000)) false refl q
 
 pub length-preFiltered : (f : Filter) (new over : List Float) → length over ≡ overlap → length (preFiltered f new over) ≡ overlap
 unfolding preFiltered

@@ -27,7 +27,7 @@ use Rattle.ref_decode.proofs.Paths.{lag-low, lag-high}
 use Rattle.ref_decode.proofs.Laws.{noises-sized}
 
 module _ (s : State) (h : List Float) (o : Ok s h) where
-  after-sized : (m : Made) → Sized (tailsAfter s m (tails h))
+  pub after-sized : (m : Made) → Sized (tailsAfter s m (tails h))
   unfolding tailsAfter tailsByNoise tailsByPitch blocks
   after-sized m =
       let z = tails-sized h (o .history) in

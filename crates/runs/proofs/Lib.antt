@@ -1,3 +1,4 @@
 mod Noise
 pub mod Limits
 pub mod Marked
+pub mod Kept

@@ -6,11 +6,10 @@ use lib.ListN.{length, getD, length-set}
 use borrow.Author.Needs.{needs}
 use lib.Ieee.{Float, nan, binary32, add, mul}
 use Rattle.loops.specs.Front.{front, tab, tab-none, tab-more, tab-all}
-use Rattle.excitation.specs.Copy.{stepped, positionAt, decayAt, periodicCopy, copiedEnergy, position-none, position-more, decay-none, decay-more}
+use Rattle.excitation.specs.Copy.{stepped-lt, stepped, positionAt, decayAt, periodicCopy, copiedEnergy, position-none, position-more, decay-none, decay-more}
 use Rattle.buffers.specs.Buffers.{zero32, squareAt}
 use Rattle.history.specs.History.{half}
 use Rattle.loops.specs.Sum.{sumTo, sum-none, sum-more}
-use Rattle.excitation.proofs.Steps.{stepped-lt}
 use Rattle.excitation.proofs.copy.periodic_copy.Statement.{statement}
 use Rattle.excitation.proofs.copy.periodic_copy.Tie as tie
 

@@ -1,0 +1,20 @@
+-- Lines of document 01 that hold of any call: what it leaves unaltered, and the lag of a history without a pitch.
+use mathlib.Core.Path.{_≡_}
+use mathlib.Core.Bool.{true}
+use mathlib.Core.List.{List, [], _∷_}
+use Prim.Native.Nat.{ℕ, _+_, _<_}
+use lib.ListN.{take, getD}
+use lib.Seq.{slice}
+use lib.Ieee.{Float, nan}
+use Rattle.history.specs.History.{half, samples, channel}
+use Rattle.state.specs.Settings.{stereo}
+use Rattle.state.specs.declared.State.{State}
+
+-- each channel's oldest 1,024 samples
+unfoldable pub oldest : List Float → List (List Float)
+oldest h = take half h ∷ slice channel (channel + half) h ∷ []
+
+-- P of every sample of the used channels, the overlaps left out
+pub record EachUsed (P : Float → Type 0) (s : State) (h : List Float) : Type 0 where
+  pub first : (i : ℕ) → i < samples → P (getD (slice 0 samples h) i nan)
+  pub second : stereo (s .settings) ≡ true → (i : ℕ) → i < samples → P (getD (slice channel (channel + samples) h) i nan)
