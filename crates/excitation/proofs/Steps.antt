@@ -79,7 +79,6 @@ module _ (a : ℕ) (x y : List Float) (s : Agree a x y) where
       tab-same _ _ n
       (λ i _. ap (mul binary32 (decayAt lag d i)) (s (positionAt lag i) (omega (arith, position-ge lag i))))
 
-
 -- a copy of the samples, filtered in place from a place on
 pub whitened-is : (from : ℕ) (lpc new mem x₀ x y : List Float) (t : Bool) → length lpc ≡ 24 → length mem ≡ 24 → length new ≡ half → length x₀ ≡ half
     → x ≡ copied new x₀ → reply t y ≡ replyIf (firTakes (length lpc) (length mem) (length x)) (celtFirFrom from lpc mem x) x

@@ -1,0 +1,1 @@
+// Theorems only: what the program writes for a whole input.
