@@ -1,0 +1,2 @@
+-- Lists of f32 values.
+pub mod Values
