@@ -14,11 +14,12 @@ use Rattle.loops.specs.Logic.{and-both, and-first, and-second, cond-either}
 use Rattle.loops.specs.Part.{put}
 use Rattle.loops.specs.Pick.{pick-true, pick-false}
 use Rattle.history.specs.History.{whole}
-use Rattle.state.specs.Answer.{Report, reportOf, numberOf}
+use Rattle.settings.specs.Number.{numberOf}
+use Rattle.state.specs.Answer.{Report, reportOf}
 use Rattle.state.specs.declared.Answer.{Answer}
 use Rattle.state.specs.declared.State.{State}
-use Rattle.ref_decode.specs.Loss.{loss, outcomeOf, inBuffer, Outcome}
-use Rattle.ref_decode.proofs.Samples.{loss-samples}
+use Rattle.loss.specs.Loss.{loss, outcomeOf, inBuffer, Outcome}
+use Rattle.loss.proofs.Samples.{loss-samples}
 use Rattle.words.specs.Bytes.{wordsBytes, floatsBytes, floatsAt}
 use Rattle.words.proofs.Laws.{length-bytes, put-front, put-next}
 use Rattle.record.specs.Record.{recordLength, stateOf, historyOf, recordOf}

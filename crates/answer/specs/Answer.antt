@@ -5,7 +5,7 @@ use Prim.Native.Nat.{ℕ, zero, suc, _+_, _*_, _/_}
 use lib.ListN.{length, take, drop}
 use lib.Dec.{leb, eqb}
 use Rattle.loops.specs.Front.{front}
-use Rattle.ref_decode.specs.Loss.{Outcome, loss}
+use Rattle.loss.specs.Loss.{Outcome, loss}
 use Rattle.words.specs.Bytes.{wordsBytes, floatsBytes}
 use Rattle.record.specs.Record.{recordLength, stateOf, historyOf, recordOf}
 

@@ -6,7 +6,7 @@ ghost use Prim.Native.Nat.{_+_, _*_, _≤_};
 ghost use lib.ListN.{length, take};
 ghost use lib.Dec.{eqb};
 ghost use Rattle.history.specs.History.{whole};
-ghost use Rattle.ref_decode.specs.Loss.{outcomeOf, inBuffer};
+ghost use Rattle.loss.specs.Loss.{outcomeOf, inBuffer};
 ghost use Rattle.words.specs.Bytes.{wordsBytes, floatsBytes};
 ghost use Rattle.record.specs.Record.{recordLength, recordOf};
 ghost use Rattle.answer.specs.Answer.{samplesMost, headMost, lossOf, headOf, recordAfter, headed, headedBy, withRecord, answerRecord, answerTail};

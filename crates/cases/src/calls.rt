@@ -3,7 +3,7 @@ use crate::streams;
 use float_bits::words::f32_to_word;
 use float_bits::words::wrapping_mul_u32;
 use ref_decode::decode_lost;
-use state::Number;
+use settings::Number;
 use state::State;
 
 // Number, kind and sample count.

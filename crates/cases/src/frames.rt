@@ -3,7 +3,7 @@ use crate::streams;
 use deemphasis::Deemphasised;
 use deemphasis::deemphasis_mono;
 use deemphasis::deemphasis_stereo;
-use state::sizes::frame_size;
+use settings::sizes::frame_size;
 
 // The first n samples of v.
 fn mono(

@@ -4,7 +4,7 @@ use noise_block::Drawn;
 use noise_block::noise_block;
 use noise_energies::lower_energies;
 use noise_loss::noise_loss;
-use state::Settings;
+use settings::Settings;
 
 // Five words ahead of a case's floats: lm, start, end, downsample and seed.
 fn mono(w: [u32; 5]) -> Settings {

@@ -5,7 +5,7 @@ use pitch_fit::fit_predictor;
 use pitch_loss::Concealed;
 use pitch_loss::pitch_loss;
 use post_filter::Filter;
-use state::Settings;
+use settings::Settings;
 
 // Six words ahead of a case's floats: lm, first, lag, and the filter's gain, period and tapset.
 fn filter_of(w: [u32; 6]) -> Filter {

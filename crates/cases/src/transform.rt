@@ -3,7 +3,7 @@ use crate::streams;
 use celt_window::low_overlap_window;
 use celt_window::window;
 use mdct::imdct;
-use state::sizes::frame_size;
+use settings::sizes::frame_size;
 
 fn answer_window() -> bool {
     let i = streams::read_word();

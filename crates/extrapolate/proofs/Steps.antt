@@ -6,7 +6,7 @@ use Prim.Native.Nat.{ℕ, _≤_, _<_}
 use native.Mathlib.Omega.{arith}
 use lib.ListN.{length, replicate}
 use lib.Dec.{eqb, leb}
-use lib.Ieee.{Float, binary32, mul, lt}
+use lib.Ieee.{Float, lt}
 use borrow.Author.Tests.{eqb-true, leb-true, eq-eqb, le-leb}
 use Rattle.loops.specs.Logic.{and-true}
 use Rattle.loops.specs.Pick.{pick-true, pick-false}
@@ -17,7 +17,7 @@ use Rattle.plc_filter.specs.Fir.{celtFir}
 use Rattle.plc_filter.specs.Iir.{celtIir, Channels, channels, iirTakes, iirPairTakes}
 use Rattle.excitation.specs.Copy.{copiedEnergy}
 use Rattle.excitation.specs.Cycle.{Cycle, cycle, repeatedCycle, pitchCycle, cycleTakes}
-use Rattle.extrapolate.specs.Guard.{fifth, muted, backScale, guardedAt, guarded}
+use Rattle.extrapolate.specs.Guard.{muted, backScale, guardedAt, guarded}
 use Rattle.extrapolate.specs.Extrapolate.{longest, recent, excitation, fade, fadedCycle, length-fadedCycle, extrapolated, extrapolateTakes, extrapolatePairTakes}
 
 -- what an accepted call may go by
@@ -104,18 +104,16 @@ module _ (m : ℕ) (new0 new1 lpc0 lpc1 mem0 mem1 x0 x1 y0 y1 z0 z1 : List Float
 
 -- the guard's three ways, by its two tests
 module _ (s1 s2 : Float) (e y : List Float) (p : s2 ≡ energy zero32 e) where
-  pub guard-zeroed : lt (mul binary32 fifth s2) s1 ≡ false → y ≡ replicate (length e) zero32
-      → (true ≡ muted s1 (energy zero32 e)) × (y ≡ guarded s1 e)
-  unfolding guarded guardedAt muted
+  pub guard-zeroed : muted s1 s2 ≡ true → y ≡ replicate (length e) zero32 → (true ≡ muted s1 (energy zero32 e)) × (y ≡ guarded s1 e)
+  unfolding guarded guardedAt
   guard-zeroed t q =
-      let m : muted s1 (energy zero32 e) ≡ true = ap (muted s1) (sym p) ∙ ap not t in
+      let m : muted s1 (energy zero32 e) ≡ true = ap (muted s1) (sym p) ∙ t in
       (sym m, q ∙ sym (pick-true _ _ _ m))
 
-  kept : lt (mul binary32 fifth s2) s1 ≡ true → muted s1 (energy zero32 e) ≡ false
-  unfolding muted
-  kept t = ap (muted s1) (sym p) ∙ ap not t
+  kept : muted s1 s2 ≡ false → muted s1 (energy zero32 e) ≡ false
+  kept t = ap (muted s1) (sym p) ∙ t
 
-  pub guard-scaled : lt (mul binary32 fifth s2) s1 ≡ true → lt s1 s2 ≡ true → y ≡ map (times (backScale s1 s2)) e
+  pub guard-scaled : muted s1 s2 ≡ false → lt s1 s2 ≡ true → y ≡ map (times (backScale s1 s2)) e
       → (false ≡ muted s1 (energy zero32 e)) × (y ≡ guarded s1 e)
   unfolding guarded guardedAt
   guard-scaled t u q = (
@@ -123,7 +121,7 @@ module _ (s1 s2 : Float) (e y : List Float) (p : s2 ≡ energy zero32 e) where
     q ∙ ap (λ z. map (times (backScale s1 z)) e) p ∙ sym (pick-false _ _ _ (kept t) ∙ pick-true _ _ _ (ap (lt s1) (sym p) ∙ u)),
   )
 
-  pub guard-kept : lt (mul binary32 fifth s2) s1 ≡ true → lt s1 s2 ≡ false → y ≡ e
+  pub guard-kept : muted s1 s2 ≡ false → lt s1 s2 ≡ false → y ≡ e
       → (false ≡ muted s1 (energy zero32 e)) × (y ≡ guarded s1 e)
   unfolding guarded guardedAt
   guard-kept t u q = (sym (kept t), q ∙ sym (pick-false _ _ _ (kept t) ∙ pick-false _ _ _ (ap (lt s1) (sym p) ∙ u)))

@@ -3,7 +3,7 @@ use mathlib.Core.Path.{_≡_, refl}
 use mathlib.Core.Bool.{Bool, true, false, cond, not}
 use mathlib.Core.List.{List, map}
 use lib.ListN.{length, replicate, length-map, length-replicate}
-use lib.Ieee.{Float, nan, inf, fin, binary32, add, mul, div, lt, ofBits, round}
+use lib.Ieee.{Float, nan, inf, fin, binary32, add, mul, div, lt, le, eq, ofBits, round}
 use Rattle.float_root.specs.Root.{sqrtOf}
 use Rattle.buffers.specs.Buffers.{zero32, one32, times, energy}
 
@@ -11,26 +11,30 @@ use Rattle.buffers.specs.Buffers.{zero32, one32, times, energy}
 abbrev pub fifth : Float
 fifth = ofBits binary32 0x3e4c_cccd
 
+-- x > y: not where either is NaN
+unfoldable pub exceeds : Float → Float → Bool
+exceeds x y = lt y x
+
 -- s1 > 0.2 × s2 is false, a NaN's case too
 unfoldable pub muted : Float → Float → Bool
-muted s1 s2 = not (lt (mul binary32 fifth s2) s1)
+muted s1 s2 = not (exceeds s1 (mul binary32 fifth s2))
 
 -- a NaN on either side, and silence on both, zero the synthesis
 pub nan-mutes : (s2 : Float) → muted nan s2 ≡ true
-unfolding muted lt
+unfolding muted exceeds lt le eq
 nan-mutes s2 = go (mul binary32 fifth s2)
   where
-    go : (x : Float) → not (lt x nan) ≡ true
+    go : (x : Float) → not (exceeds nan x) ≡ true
     go nan = refl
     go (inf s) = refl
     go (fin s m e) = refl
 
 pub nan-muted : (s1 : Float) → muted s1 nan ≡ true
-unfolding muted lt mul ofBits
+unfolding muted exceeds lt le eq mul ofBits
 nan-muted s1 = refl
 
 pub silence-muted : muted zero32 zero32 ≡ true
-unfolding muted lt mul ofBits round
+unfolding muted exceeds lt le eq mul ofBits round
 silence-muted = refl
 
 -- √((s1 + 1) / (s2 + 1))

@@ -12,22 +12,22 @@ use Rattle.loops.specs.Logic.{cond-either}
 use Rattle.band_quant.specs.Draw.{draws}
 use Rattle.custom_mode.specs.Mode.{lastEdge}
 use Rattle.history.specs.History.{half, samples, channel, Tails, tails, tailAt, newest}
-use Rattle.state.specs.Settings.{factor, firstBin, frame, stereo, needed, checkSettings}
+use Rattle.settings.specs.Settings.{factor, firstBin, frame, stereo, needed, checkSettings}
 use Rattle.state.specs.State.{core, noisy, searches}
 use Rattle.state.specs.Refusal.{checkCount, checkPcm, refusesState, refusal}
 use Rattle.state.specs.declared.State.{State}
-use Rattle.state.proofs.Passed.{or-zero, passes, passed}
+use Rattle.settings.proofs.Passed.{or-zero, passes, passed}
 use Rattle.state.proofs.Keep.{Ok, ok-start}
 use Rattle.pitch_fit.specs.Fit.{order, pitchFit, length-pitchFit, fittedTo}
 use Rattle.pitch_fit.specs.Lag.{lagOf}
 use Rattle.noise_energies.specs.Energies.{length-lowerEnergies}
 use Rattle.noise_loss.specs.Loss.{Blocks, noiseBlocks, noiseSeed}
 use Rattle.deemphasis.specs.Deemphasis.{deemphasis, length-memories}
-use Rattle.ref_decode.specs.declared.Made.{Made}
-use Rattle.ref_decode.specs.Loss.{lowered, blocks, noiseMade, pitchMade, made, tailsByNoise, tailsByPitch, tailsAfter, historyAfter, frameSound, finish, concealed, refused, answered, loss}
-use Rattle.ref_decode.proofs.Keep.{after-length, made-lag}
-use Rattle.ref_decode.proofs.Laws.{block-draws}
-use Rattle.ref_decode.proofs.Paths.{lag-high}
+use Rattle.loss.specs.declared.Made.{Made}
+use Rattle.loss.specs.Loss.{lowered, blocks, noiseMade, pitchMade, made, tailsByNoise, tailsByPitch, tailsAfter, historyAfter, frameSound, finish, concealed, refused, answered, loss}
+use Rattle.loss.proofs.Keep.{after-length, made-lag}
+use Rattle.loss.proofs.Laws.{block-draws}
+use Rattle.loss.proofs.Lags.{lag-high}
 use Rattle.record.specs.Record.{headWords}
 use Rattle.record_laws.specs.RoundTrip.{Fit}
 use Rattle.fit_laws.specs.Values.{AllSingle, all-index, index-all, all-append, all-slice, all-cond}

@@ -33,7 +33,7 @@ use Rattle.noise_energies.specs.Energies.{energyDrop, drops, droppedAt, lowerEn
 use Rattle.noise_loss.specs.Cover.{overlapped, coveredTail}
 use Rattle.noise_loss.specs.Loss.{channelBlock, Blocks, noiseBlocks, noiseTails}
 use Rattle.deemphasis.specs.Deemphasis.{nextMemory, memoryTo, deemphasis}
-use Rattle.state.specs.declared.Settings.{Settings}
+use Rattle.settings.specs.declared.Settings.{Settings}
 use Rattle.fit_laws.specs.Values.{Single, AllSingle, all-at, all-append, all-take, all-drop, all-slice, all-set, all-map, all-replicate, all-tab, all-cond, holds}
 
 -- ---- energies and memories

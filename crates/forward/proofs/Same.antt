@@ -10,15 +10,15 @@ use lib.Ieee.{Float}
 use Rattle.history.specs.History.{half, Tail, Tails, tails, withTails}
 use Rattle.history.proofs.Parts.{TailSized, Sized, tails-sized}
 use Rattle.post_filter.specs.declared.Filter.{Filter}
-use Rattle.state.specs.Settings.{frame, stereo}
+use Rattle.settings.specs.Settings.{frame, stereo}
 use Rattle.state.specs.State.{core, noisy}
 use Rattle.state.specs.Refusal.{checkPcm, refusesState, refusal}
-use Rattle.state.specs.Settings.{needed}
+use Rattle.settings.specs.Settings.{needed}
 use Rattle.state.specs.declared.State.{State}
-use Rattle.state.proofs.Passed.{or-zero, frame-high}
+use Rattle.settings.proofs.Passed.{or-zero, frame-high}
 use Rattle.state.proofs.Keep.{Ok, ok-start}
 use Rattle.pitch_loss.specs.PitchLoss.{pitchTails}
-use Rattle.ref_decode.specs.Loss.{made, tailsByNoise, tailsByPitch, tailsAfter, historyAfter, finish, concealed, answered, loss}
+use Rattle.loss.specs.Loss.{made, tailsByNoise, tailsByPitch, tailsAfter, historyAfter, finish, concealed, answered, loss}
 use Rattle.forward.specs.Loss.{forwardTails, forwardByPitch, forwardHistory, forwardAnswered, forwardLoss}
 use Rattle.forward.proofs.Hidden.{forward-hidden}
 

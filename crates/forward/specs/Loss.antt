@@ -7,13 +7,13 @@ use lib.Dec.{eqb}
 use lib.Ieee.{Float}
 use Rattle.history.specs.History.{Tails, tails, withTails}
 use Rattle.post_filter.specs.declared.Filter.{Filter}
-use Rattle.state.specs.Settings.{frame, stereo}
+use Rattle.settings.specs.Settings.{frame, stereo}
 use Rattle.state.specs.State.{core, noisy}
 use Rattle.state.specs.Refusal.{refusal}
 use Rattle.state.specs.declared.State.{State}
 use Rattle.extrapolate.specs.Extrapolate.{order}
-use Rattle.ref_decode.specs.declared.Made.{Made}
-use Rattle.ref_decode.specs.Loss.{Outcome, made, tailsByNoise, finish, refused}
+use Rattle.loss.specs.declared.Made.{Made}
+use Rattle.loss.specs.Loss.{Outcome, made, tailsByNoise, finish, refused}
 use Rattle.forward.specs.Forward.{forwardTail}
 
 -- each used channel, of two or one, by its 24 of 48 coefficients

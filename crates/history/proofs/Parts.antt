@@ -1,7 +1,7 @@
 -- A history taken apart and put together.
 use mathlib.Core.Path.{_≡_, ap, ap₂, sym, _∙_}
 use mathlib.Core.Bool.{Bool}
-use mathlib.Core.List.{List, [], _++_, append-assoc, append-nil}
+use mathlib.Core.List.{List, [], _∷_, _++_, append-assoc, append-nil}
 use Prim.Native.Nat.{ℕ, _+_, _-_, _≤_}
 use native.Mathlib.Omega.{arith}
 use lib.ListN.{length, take, drop, length-append, length-drop, drop-of-length-le, take-append-drop}
@@ -9,7 +9,7 @@ use lib.Seq.{slice, length-slice, length-take-le, take-at, drop-at, take-add, ta
 use lib.Dec.{lit≤}
 use lib.Ieee.{Float}
 use Rattle.loops.specs.Part.{put, drop-slice}
-use Rattle.history.specs.History.{half, samples, overlap, channel, whole, Tail, Tails, tailAt, tails, withTails, tailList, tailOf, both, newest}
+use Rattle.history.specs.History.{half, samples, overlap, channel, whole, Tail, Tails, tailAt, tails, withTails, tailList, tailOf, both, newest, oldest}
 
 module _ {A : Type 0} where
   -- a slice, by its length
@@ -171,15 +171,25 @@ module _ (h : List Float) (t : Tails) (l : length h ≡ whole) (z : Sized t) whe
       let s = glued-over-two a n v b m w old (z .first .new) (z .first .over) old-two (z .second .new) (z .second .over) in
       λ i. record { first = record { new = p i; over = q i }; second = record { new = r i; over = s i } }
 
+  first-kept : take half (withTails h t) ≡ take half h
+  unfolding withTails glued
+  first-kept = glued-old (take 1024 h) (t .first .new) (t .first .over) (slice 2168 3192 h) (t .second .new) (t .second .over)
+      old (z .first .new) (z .first .over) old-two (z .second .new) (z .second .over)
+
+  second-kept : slice 2168 3192 (withTails h t) ≡ slice 2168 3192 h
+  unfolding withTails glued
+  second-kept = glued-old-two (take 1024 h) (t .first .new) (t .first .over) (slice 2168 3192 h) (t .second .new) (t .second .over)
+      old (z .first .new) (z .first .over) old-two (z .second .new) (z .second .over)
+
+  -- each channel's oldest stay
+  pub oldest-with : oldest (withTails h t) ≡ oldest h
+  unfolding oldest
+  oldest-with = ap₂ (λ x y. x ∷ y ∷ []) first-kept second-kept
+
   -- tails replaced twice: the later ones stay
   pub with-again : (u : Tails) → withTails (withTails h t) u ≡ withTails h u
-  unfolding withTails glued
-  with-again u =
-      ap₂ (λ x y. x ++ (u .first .new ++ (u .first .over ++ (y ++ (u .second .new ++ u .second .over)))))
-      (glued-old (take 1024 h) (t .first .new) (t .first .over) (slice 2168 3192 h) (t .second .new) (t .second .over)
-      old (z .first .new) (z .first .over) old-two (z .second .new) (z .second .over))
-      (glued-old-two (take 1024 h) (t .first .new) (t .first .over) (slice 2168 3192 h) (t .second .new) (t .second .over)
-      old (z .first .new) (z .first .over) old-two (z .second .new) (z .second .over))
+  unfolding withTails
+  with-again u = ap₂ (λ x y. x ++ (u .first .new ++ (u .first .over ++ (y ++ (u .second .new ++ u .second .over))))) first-kept second-kept
 
 -- a tail that a step was lent comes back
 module _ (h : List Float) (l : length h ≡ whole) where

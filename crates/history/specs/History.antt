@@ -42,6 +42,10 @@ tailAt at h = record { new = slice (at + half) (at + samples) h; over = slice (a
 unfoldable pub tails : List Float → Tails
 tails h = record { first = tailAt 0 h; second = tailAt channel h }
 
+-- each channel's oldest 1,024 samples
+unfoldable pub oldest : List Float → List (List Float)
+oldest h = take half h ∷ slice channel (channel + half) h ∷ []
+
 -- the oldest 1,024 of each channel kept, and the rest replaced
 unfoldable pub withTails : List Float → Tails → List Float
 withTails h t = take half h ++ (t .first .new ++ (t .first .over ++ (slice channel (channel + half) h ++ (t .second .new ++ t .second .over))))

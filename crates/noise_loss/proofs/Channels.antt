@@ -14,9 +14,9 @@ use Rattle.loops.specs.Part.{put, drop-slice}
 use Rattle.loops.specs.Reply.{reply, replyIf, reply-lent}
 use Rattle.history.specs.History.{half, samples, overlap, channel, whole, Tail, Tails, tailAt, tails, withTails, tailList}
 use Rattle.history.proofs.Parts.{slice-take, put-inner, TailSized, Sized, first-sized, second-sized, tails-with, put-first, put-both}
-use Rattle.state.specs.Settings.{factor, frame, stereo, checkSettings}
-use Rattle.state.specs.declared.Settings.{Settings}
-use Rattle.state.proofs.Passed.{passed, frame-low, frame-high, downsample-low}
+use Rattle.settings.specs.Settings.{factor, frame, stereo, checkSettings}
+use Rattle.settings.specs.declared.Settings.{Settings}
+use Rattle.settings.proofs.Passed.{passed, frame-low, frame-high, downsample-low}
 use Rattle.noise_block.specs.Block.{Block, drawnBlock, noiseBlock, length-block}
 use Rattle.noise_block.specs.Call.{settingsFit, blockTakes}
 use Rattle.noise_loss.specs.Cover.{overlapped, coveredTail, length-covered-new, length-covered-over}

@@ -7,8 +7,8 @@ use lib.Dec.{eqb}
 use lib.Ieee.{Float}
 use Rattle.custom_mode.specs.Mode.{maxBands}
 use Rattle.history.specs.History.{whole, Tails, tails, withTails}
-use Rattle.state.specs.Settings.{factor, frame, stereo, checkSettings}
-use Rattle.state.specs.declared.Settings.{Settings}
+use Rattle.settings.specs.Settings.{factor, frame, stereo, checkSettings}
+use Rattle.settings.specs.declared.Settings.{Settings}
 use Rattle.noise_block.specs.Block.{Block, noiseBlock}
 use Rattle.noise_loss.specs.Cover.{coveredTail}
 

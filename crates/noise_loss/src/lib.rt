@@ -6,14 +6,14 @@ ghost use Rattle.loops.specs.Part.{put};
 ghost use Rattle.loops.specs.Reply.{reply, replyIf};
 ghost use Rattle.custom_mode.specs.Mode.{maxBands};
 ghost use Rattle.history.specs.History.{half, overlap, channel, whole, tailAt, tails, withTails, tailList};
-ghost use Rattle.state.specs.Settings.{frame, stereo, checkSettings};
+ghost use Rattle.settings.specs.Settings.{frame, stereo, checkSettings};
 ghost use Rattle.noise_loss.specs.Cover.{coveredTail};
 ghost use Rattle.noise_loss.specs.Loss.{channelBlock, noiseBlocks, noiseSeed, noiseTails, noised, afterNoise, noiseTakes};
 use noise_block::Drawn;
 use noise_block::noise_block;
-use state::Settings;
-use state::checks::settings_pass;
-use state::sizes::frame_size;
+use settings::Settings;
+use settings::checks::settings_pass;
+use settings::sizes::frame_size;
 
 mod cover;
 

@@ -20,8 +20,8 @@ use Rattle.plc_filter.specs.Iir.{Channels, channels}
 use Rattle.post_filter.specs.declared.Filter.{Filter}
 use Rattle.post_filter.specs.Limits.{filterFits}
 use Rattle.post_filter.specs.Comb.{preFiltered, length-preFiltered, preFilteredEnd, prefilterTakes}
-use Rattle.state.specs.declared.Settings.{Settings}
-use Rattle.state.specs.Settings.{frame, stereo, checkSettings}
+use Rattle.settings.specs.declared.Settings.{Settings}
+use Rattle.settings.specs.Settings.{frame, stereo, checkSettings}
 use Rattle.state.specs.Refusal.{lagLeast, lagMost}
 use Rattle.excitation.specs.Cycle.{cycleTakes}
 use Rattle.extrapolate.specs.Extrapolate.{order, longest, extrapolated, length-extrapolated, extrapolateTakes, extrapolatePairTakes}

@@ -11,8 +11,8 @@ use Rattle.celt_window.specs.Window.{window}
 use Rattle.post_filter.specs.declared.Filter.{Filter}
 use Rattle.post_filter.specs.Limits.{filterFits}
 use Rattle.post_filter.specs.Comb.{preFiltered}
-use Rattle.state.specs.declared.Settings.{Settings}
-use Rattle.state.specs.Settings.{checkSettings}
+use Rattle.settings.specs.declared.Settings.{Settings}
+use Rattle.settings.specs.Settings.{checkSettings}
 use Rattle.state.specs.Refusal.{lagLeast, lagMost}
 use Rattle.extrapolate.specs.Extrapolate.{order, extrapolated}
 use Rattle.fold.specs.Roll.{rolled}

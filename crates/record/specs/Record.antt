@@ -7,7 +7,7 @@ use lib.Dec.{eqb}
 use lib.Ieee.{Float, binary32, ofBits, toBits}
 use Rattle.history.specs.History.{whole}
 use Rattle.post_filter.specs.declared.Filter.{Filter}
-use Rattle.state.specs.declared.Settings.{Settings}
+use Rattle.settings.specs.declared.Settings.{Settings}
 use Rattle.state.specs.declared.State.{State}
 use Rattle.words.specs.Bytes.{wordAt, floatsAt, wordsBytes, floatsBytes}
 

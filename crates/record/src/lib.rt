@@ -9,7 +9,7 @@ ghost use Rattle.loops.specs.Reply.{reply, replyIf};
 ghost use Rattle.words.specs.Bytes.{floatsAt, floatsBytes};
 ghost use Rattle.record.specs.Record.{settingsOf, filterOf, stateOf, headWords, stateBytes, recordOf, writable};
 use post_filter::Filter;
-use state::Settings;
+use settings::Settings;
 use state::State;
 
 pub const BYTES: usize = 17_988;

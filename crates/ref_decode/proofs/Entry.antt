@@ -10,15 +10,15 @@ use lib.Ieee.{Float}
 use borrow.Author.Tests.{leb-true, eqb-false, not-true}
 use Rattle.loops.specs.Front.{front}
 use Rattle.history.specs.History.{tails, withTails}
-use Rattle.state.specs.Settings.{needed}
+use Rattle.settings.specs.Settings.{needed}
 use Rattle.state.specs.State.{core, noisy}
 use Rattle.state.specs.Refusal.{checkCount, checkPcm, refusesState, refusal}
 use Rattle.state.specs.declared.State.{State}
-use Rattle.state.proofs.Passed.{or-zero, passes}
+use Rattle.settings.proofs.Passed.{or-zero, passes}
 use Rattle.deemphasis.specs.Deemphasis.{Sound}
-use Rattle.ref_decode.specs.Loss.{noiseMade, pitchMade, made, tailsByNoise, tailsByPitch, tailsAfter, historyAfter}
-use Rattle.ref_decode.specs.Loss.{Outcome, frameSound, finishWith, finish, concealed, refused, answered, loss, inBuffer, soundIn}
-use Rattle.ref_decode.specs.declared.Made.{Made}
+use Rattle.loss.specs.Loss.{noiseMade, pitchMade, made, tailsByNoise, tailsByPitch, tailsAfter, historyAfter}
+use Rattle.loss.specs.Loss.{Outcome, frameSound, finishWith, finish, concealed, refused, answered, loss, inBuffer, soundIn}
+use Rattle.loss.specs.declared.Made.{Made}
 
 module _ (s : State) (n p : ℕ) (z : refusal s n p ≡ 0) where
   pub accepted-state : refusesState s n ≡ 0

@@ -13,11 +13,11 @@ use Rattle.loops.specs.Logic.{and-both}
 use Rattle.loops.specs.Reply.{reply, reply-lent}
 use Rattle.history.specs.History.{samples, channel, whole, both, newest}
 use Rattle.history.proofs.Parts.{slice-take}
-use Rattle.state.specs.Settings.{frame, stereo, checkSettings, blockFactor, needed}
-use Rattle.state.specs.declared.Settings.{Settings}
-use Rattle.state.proofs.Passed.{passed, frame-is, frame-high, frame-divides, downsample-low, needed-is}
+use Rattle.settings.specs.Settings.{frame, stereo, checkSettings, blockFactor, needed}
+use Rattle.settings.specs.declared.Settings.{Settings}
+use Rattle.settings.proofs.Passed.{passed, frame-is, frame-high, frame-divides, downsample-low, needed-is}
 use Rattle.deemphasis.specs.Deemphasis.{Sound, hasRoom, deemphasis, deemphasised, deemphasisMono, deemphasisStereo}
-use Rattle.ref_decode.specs.Loss.{frameSound, soundIn}
+use Rattle.loss.specs.Loss.{frameSound, soundIn}
 
 room-fits : (d n room : ℕ) → 1 ≤ d → n % d ≡ 0 → n / d ≤ room → hasRoom d n room ≡ true
 unfolding hasRoom

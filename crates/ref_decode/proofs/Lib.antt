@@ -1,6 +1,3 @@
 mod Frames
-pub mod Paths
+mod Paths
 mod Entry
-pub mod Laws
-pub mod Keep
-pub mod Samples

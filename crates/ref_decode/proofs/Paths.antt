@@ -11,28 +11,19 @@ use borrow.Author.Tests.{le-leb, eq-eqb, eqb-true, eqb-false}
 use Rattle.loops.specs.Reply.{reply, replyIf, reply-lent}
 use Rattle.history.specs.History.{whole, tails, withTails}
 use Rattle.post_filter.specs.Limits.{filterFits}
-use Rattle.state.specs.Settings.{frame, stereo, checkSettings}
+use Rattle.settings.specs.Settings.{frame, stereo, checkSettings}
 use Rattle.state.specs.State.{core, noisy, searches}
 use Rattle.state.specs.Refusal.{lagLeast, lagMost, refusesState, AcceptedState}
 use Rattle.state.specs.declared.State.{State}
 use Rattle.state.proofs.Keep.{Ok, ok-start, lag-range, pitch-start, pitch-count, pitch-searches}
-use Rattle.plc_search.specs.Offset.{offset-le}
-use Rattle.pitch_fit.specs.Lag.{lagOf, lowPassed}
+use Rattle.pitch_fit.specs.Lag.{lagOf}
 use Rattle.pitch_fit.specs.Fit.{fittedTo}
 use Rattle.pitch_loss.specs.PitchLoss.{pitchTails, pitchTakes}
 use Rattle.noise_energies.specs.Energies.{lowerEnergies, readEnergies}
 use Rattle.noise_loss.specs.Loss.{Noised, noised, afterNoise, noiseTakes}
-use Rattle.ref_decode.specs.Loss.{lowered, blocks, noiseMade, pitchMade, tailsByNoise, tailsByPitch}
-use Rattle.ref_decode.specs.declared.Made.{Made}
-
--- a found lag is within the limits
-pub lag-low : (two : Bool) (h : List Float) → lagLeast ≤ lagOf two h
-unfolding lagOf
-lag-low two h = omega (arith, offset-le (lowPassed two h))
-
-pub lag-high : (two : Bool) (h : List Float) → lagOf two h ≤ lagMost
-unfolding lagOf
-lag-high two h = omega arith
+use Rattle.loss.specs.Loss.{lowered, blocks, noiseMade, pitchMade, tailsByNoise, tailsByPitch}
+use Rattle.loss.specs.declared.Made.{Made}
+use Rattle.loss.proofs.Lags.{lag-low, lag-high}
 
 module _ (s : State) (h : List Float) (z : AcceptedState s h) where
   noise-taken : noiseTakes (s .settings) (length h) ≡ true

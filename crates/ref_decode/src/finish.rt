@@ -3,19 +3,19 @@ ghost use mathlib.Core.Path.{_≡_};
 ghost use Prim.Native.Nat.{_≤_};
 ghost use lib.ListN.{length};
 ghost use Rattle.history.specs.History.{whole};
-ghost use Rattle.state.specs.Settings.{checkSettings, needed};
+ghost use Rattle.settings.specs.Settings.{checkSettings, needed};
 ghost use Rattle.state.specs.Refusal.{refusal};
 ghost use Rattle.deemphasis.specs.Deemphasis.{sound};
-ghost use Rattle.ref_decode.specs.Loss.{frameSound, finish, outcomeOf, inBuffer, soundIn};
-use crate::Made;
+ghost use Rattle.loss.specs.Loss.{frameSound, finish, outcomeOf, inBuffer, soundIn};
 use deemphasis::deemphasis_mono;
 use deemphasis::deemphasis_stereo;
+use loss::Made;
+use settings::Number;
+use settings::Settings;
+use settings::sizes::frame_size;
+use settings::sizes::needed_samples;
 use state::Answer;
-use state::Number;
-use state::Settings;
 use state::State;
-use state::sizes::frame_size;
-use state::sizes::needed_samples;
 
 // The newest N samples of each used channel as PCM; the memories after it.
 fn deemphasise(k: Settings, history: &[f32], memories: [f32; 2], pcm: &mut [f32]) -> [f32; 2]

@@ -8,7 +8,7 @@ ghost use mathlib.Core.Bool.{true, false};
 ghost use lib.ListN.{length};
 ghost use Rattle.state.specs.State.{core, noisy};
 ghost use Rattle.state.specs.Refusal.{refusal};
-ghost use Rattle.ref_decode.specs.Loss.{concealed, loss, outcomeOf, inBuffer};
+ghost use Rattle.loss.specs.Loss.{concealed, loss, outcomeOf, inBuffer};
 use state::Answer;
 use state::State;
 use state::checks::first_refusal;
@@ -17,15 +17,6 @@ use state::checks::first_refusal;
 const PITCH_KIND: u32 = 1;
 
 const NOISE_KIND: u32 = 2;
-
-// What a path made of a state.
-pub struct Made {
-    pub kind: u32,
-    pub seed: u32,
-    pub lag: u32,
-    pub coarse: [f32; 50],
-    pub predictor: [f32; 48],
-}
 
 // The first loss count that goes by noise at any start band.
 const FIRST_NOISE: u32 = 5;

@@ -1,54 +1,26 @@
 -- The oldest samples stay, whatever the call; silence and NaN give lag 720 where a loss searches.
-use mathlib.Core.Path.{_≡_, refl, ap, ap₂, sym, _∙_}
+use mathlib.Core.Path.{_≡_, refl, ap, _∙_}
 use mathlib.Core.Bool.{Bool, true, false, cond}
-use mathlib.Core.List.{List, [], _∷_, _++_, append-assoc}
+use mathlib.Core.List.{List, [], _∷_}
 use Prim.Native.Nat.{ℕ, zero, suc, _+_, _<_}
-use native.Mathlib.Omega.{arith}
-use lib.ListN.{length, take, drop, getD, length-append}
-use lib.Seq.{slice, length-slice, length-take-le, take-at, drop-at}
+use lib.ListN.{length, getD}
+use lib.Seq.{slice}
 use lib.Ieee.{Float, nan}
-use Rattle.history.specs.History.{half, samples, channel, whole, Tails, tails, withTails}
-use Rattle.history.proofs.Parts.{Sized}
+use Rattle.history.specs.History.{samples, channel, tails, oldest}
+use Rattle.history.proofs.Parts.{oldest-with}
 use Rattle.lag_laws.specs.NoPitch.{SignedZero}
 use Rattle.lag_laws.specs.FlatHistory.{silent-history, silent-pair, nan-history, nan-pair-first}
-use Rattle.state.specs.Settings.{stereo, needed}
+use Rattle.settings.specs.Settings.{stereo, needed}
 use Rattle.state.specs.State.{searches}
 use Rattle.state.specs.Refusal.{checkPcm, refusesState, refusal}
 use Rattle.state.specs.declared.State.{State}
-use Rattle.state.proofs.Passed.{or-zero}
+use Rattle.settings.proofs.Passed.{or-zero}
 use Rattle.state.proofs.Keep.{Ok, ok-start}
 use Rattle.pitch_fit.specs.Lag.{lowPassed, lagOf}
-use Rattle.ref_decode.specs.Loss.{made, tailsAfter, historyAfter, finish, concealed, refused, answered, loss}
-use Rattle.ref_decode.proofs.Keep.{after-sized, made-lag}
-use Rattle.runs.specs.Kept.{oldest, EachUsed}
+use Rattle.loss.specs.Loss.{made, tailsAfter, historyAfter, finish, concealed, refused, answered, loss}
+use Rattle.loss.proofs.Keep.{after-sized, made-lag}
+use Rattle.runs.specs.Kept.{EachUsed}
 use Rattle.runs.specs.Run.{Call, called, run, lastHistory}
-
-slice-mid : (p q r : List Float) (a b : ℕ) → length p ≡ a → length p + length q ≡ b → slice a b (p ++ (q ++ r)) ≡ q
-slice-mid p q r a b e f =
-    ap (drop a) (ap (take b) (sym (append-assoc p q r)) ∙ take-at (p ++ q) r b (length-append p q ∙ f)) ∙ drop-at p q a e
-
-oldest-with : (h : List Float) (t : Tails) → length h ≡ whole → Sized t → oldest (withTails h t) ≡ oldest h
-unfolding oldest withTails
-oldest-with h t l z =
-    let a = take half h in
-    let b = slice channel (channel + half) h in
-    let front = a ++ (t .first .new ++ t .first .over) in
-    let la : length a ≡ half = length-take-le half h (omega arith) in
-    let lb : length b ≡ half = length-slice channel (channel + half) h (omega arith) in
-    let lf : length front ≡ channel =
-    omega (
-      arith,
-      length-append a (t .first .new ++ t .first .over),
-      length-append (t .first .new) (t .first .over),
-      z .first .new,
-      z .first .over,
-    ) in
-    let rest = b ++ (t .second .new ++ t .second .over) in
-    let joined : withTails h t ≡ front ++ rest =
-    sym (append-assoc a (t .first .new ++ t .first .over) rest ∙ ap (λ y. a ++ y) (append-assoc (t .first .new) (t .first .over) rest)) in
-    ap₂ (λ u v. u ∷ v ∷ [])
-    (take-at a _ half la)
-    (ap (slice channel (channel + half)) joined ∙ slice-mid front b _ channel (channel + half) lf (omega arith))
 
 -- each channel's oldest 1,024 samples are unaltered by any call, on both paths and by refusals
 pub oldest-kept : (s : State) (h : List Float) (p : ℕ) → oldest ((loss s h p) .history) ≡ oldest h

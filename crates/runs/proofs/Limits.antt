@@ -12,19 +12,19 @@ use borrow.Author.Tests.{eqb-true, ne-eqb}
 use Rattle.band_quant.specs.Draw.{draws, draws-add}
 use Rattle.history.specs.History.{half, Tails, tails, both, newest}
 use Rattle.history.proofs.Parts.{newest-tails}
-use Rattle.state.specs.Settings.{frame, stereo, needed, drawsPerLoss}
+use Rattle.settings.specs.Settings.{frame, stereo, needed, drawsPerLoss}
 use Rattle.state.specs.State.{Core, core, noisy, searches}
 use Rattle.state.specs.Refusal.{AcceptedState}
-use Rattle.state.specs.declared.Settings.{Settings}
+use Rattle.settings.specs.declared.Settings.{Settings}
 use Rattle.state.specs.declared.State.{State}
-use Rattle.state.proofs.Passed.{frame-high}
+use Rattle.settings.proofs.Passed.{frame-high}
 use Rattle.state.proofs.Keep.{Ok, ok-start, gate, ok-gate, noisy-more}
 use Rattle.deemphasis.specs.Deemphasis.{Sound, deemphasis}
 use Rattle.noise_loss.specs.Loss.{Blocks, noiseSeed}
-use Rattle.ref_decode.specs.declared.Made.{Made}
-use Rattle.ref_decode.specs.Loss.{Outcome, lowered, blocks, noiseMade, pitchMade, made, tailsAfter, historyAfter, frameSound, finish, concealed, refused, answered, loss}
+use Rattle.loss.specs.declared.Made.{Made}
+use Rattle.loss.specs.Loss.{Outcome, lowered, blocks, noiseMade, pitchMade, made, tailsAfter, historyAfter, frameSound, finish, concealed, refused, answered, loss}
 use Rattle.runs.specs.Run.{Call, called, run, lastState, lastHistory, noiseCount, noiseLosses, EachCall, SameButOldest, ahead, SameAhead, Limited}
-use Rattle.ref_decode.proofs.Keep.{after-tails, ok-after}
+use Rattle.loss.proofs.Keep.{after-tails, ok-after}
 use Rattle.runs.proofs.Noise.{heard, heard-same, newOver, newOverTwo, noise-ahead, noise-over, noise-over-two, noise-draws}
 
 -- a refused call is no noise loss

@@ -13,13 +13,14 @@ use Rattle.band_quant.specs.Marked.{drawn, heard}
 use Rattle.custom_mode.specs.Mode.{edges, edge}
 use Rattle.custom_mode.specs.Marked.{gains}
 use Rattle.post_filter.specs.Limits.{filterFits}
-use Rattle.state.specs.Settings.{factor, firstBin, stereo, drawsPerLoss, orElse, checkSettings}
+use Rattle.settings.specs.Number.{orElse}
+use Rattle.settings.specs.Settings.{factor, firstBin, stereo, drawsPerLoss, checkSettings}
 use Rattle.state.specs.State.{core, noisy}
 use Rattle.state.specs.Refusal.{refusesState, refusal}
-use Rattle.state.specs.declared.Settings.{Settings}
+use Rattle.settings.specs.declared.Settings.{Settings}
 use Rattle.state.specs.declared.State.{State}
 use Rattle.noise_loss.specs.Loss.{noiseSeed}
-use Rattle.ref_decode.specs.Loss.{blocks, noiseMade, pitchMade, made, finish, concealed, refused, answered, loss}
+use Rattle.loss.specs.Loss.{blocks, noiseMade, pitchMade, made, finish, concealed, refused, answered, loss}
 use Rattle.runs.specs.Marked.{settingsAt, Draws, carrying, MarkedEdges}
 use Rattle.runs.proofs.Noise.{noise-draws}
 

@@ -14,18 +14,18 @@ use Rattle.band_quant.specs.Draw.{draws, draws-add}
 use Rattle.custom_mode.specs.Mode.{lastEdge}
 use Rattle.history.specs.History.{half, overlap, Tail, Tails, tails, both}
 use Rattle.history.proofs.Parts.{tails-sized, newest-tails}
-use Rattle.state.specs.Settings.{factor, frame, stereo, firstBin, drawsPerLoss, checkSettings}
+use Rattle.settings.specs.Settings.{factor, frame, stereo, firstBin, drawsPerLoss, checkSettings}
 use Rattle.state.specs.State.{Core, core, noisy}
-use Rattle.state.specs.declared.Settings.{Settings}
+use Rattle.settings.specs.declared.Settings.{Settings}
 use Rattle.state.specs.declared.State.{State}
-use Rattle.state.proofs.Passed.{passed, frame-high}
+use Rattle.settings.proofs.Passed.{passed, frame-high}
 use Rattle.state.proofs.Keep.{Ok}
 use Rattle.noise_loss.specs.Cover.{overlapped, coveredTail}
 use Rattle.noise_loss.specs.Loss.{noiseBlocks, noiseSeed, noiseTails}
-use Rattle.ref_decode.specs.Loss.{blocks, made, tailsByNoise, tailsByPitch, tailsAfter, historyAfter}
+use Rattle.loss.specs.Loss.{blocks, made, tailsByNoise, tailsByPitch, tailsAfter, historyAfter}
 use Rattle.runs.specs.Run.{ahead}
-use Rattle.ref_decode.proofs.Keep.{after-tails}
-use Rattle.ref_decode.proofs.Laws.{block-draws, covered-newest}
+use Rattle.loss.proofs.Keep.{after-tails}
+use Rattle.loss.proofs.Laws.{block-draws, covered-newest}
 
 -- a block of n + 120 samples laid over an old overlap
 laidOver : ℕ → List Float → List Float → List Float

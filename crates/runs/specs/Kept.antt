@@ -1,18 +1,14 @@
--- Lines of document 01 that hold of any call: what it leaves unaltered, and the lag of a history without a pitch.
+-- A history without a pitch.
 use mathlib.Core.Path.{_≡_}
 use mathlib.Core.Bool.{true}
-use mathlib.Core.List.{List, [], _∷_}
+use mathlib.Core.List.{List}
 use Prim.Native.Nat.{ℕ, _+_, _<_}
-use lib.ListN.{take, getD}
+use lib.ListN.{getD}
 use lib.Seq.{slice}
 use lib.Ieee.{Float, nan}
-use Rattle.history.specs.History.{half, samples, channel}
-use Rattle.state.specs.Settings.{stereo}
+use Rattle.history.specs.History.{samples, channel}
+use Rattle.settings.specs.Settings.{stereo}
 use Rattle.state.specs.declared.State.{State}
-
--- each channel's oldest 1,024 samples
-unfoldable pub oldest : List Float → List (List Float)
-oldest h = take half h ∷ slice channel (channel + half) h ∷ []
 
 -- P of every sample of the used channels, the overlaps left out
 pub record EachUsed (P : Float → Type 0) (s : State) (h : List Float) : Type 0 where

@@ -14,9 +14,9 @@ use Rattle.custom_mode.specs.Gain.{gainOf}
 use Rattle.history.specs.History.{whole}
 use Rattle.state.specs.State.{core, noisy}
 use Rattle.state.specs.Refusal.{refusesState}
-use Rattle.state.specs.declared.Settings.{Settings}
+use Rattle.settings.specs.declared.Settings.{Settings}
 use Rattle.state.specs.declared.State.{State}
-use Rattle.ref_decode.specs.Loss.{loss}
+use Rattle.loss.specs.Loss.{loss}
 
 -- settings with every band and no downsampling
 abbrev pub settingsAt : ℕ → ℕ → ℕ → Settings

@@ -7,12 +7,12 @@ use lib.Dec.{eqb}
 use lib.Ieee.{Float}
 use Rattle.band_quant.specs.Draw.{draws}
 use Rattle.history.specs.History.{tails, newest}
-use Rattle.state.specs.Settings.{frame, stereo, drawsPerLoss}
+use Rattle.settings.specs.Settings.{frame, stereo, drawsPerLoss}
 use Rattle.state.specs.State.{core, noisy}
 use Rattle.state.specs.Refusal.{AcceptedState}
-use Rattle.state.specs.declared.Settings.{Settings}
+use Rattle.settings.specs.declared.Settings.{Settings}
 use Rattle.state.specs.declared.State.{State}
-use Rattle.ref_decode.specs.Loss.{Outcome, loss}
+use Rattle.loss.specs.Loss.{Outcome, loss}
 
 -- a call to conceal a frame: the length of the PCM buffer that it is lent
 pub record Call : Type 0 where

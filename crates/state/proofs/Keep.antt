@@ -11,12 +11,13 @@ use borrow.Author.Tests.{leb-true, leb-false, le-leb, eqb-true, eqb-false, eq-eq
 use Rattle.loops.specs.Logic.{and-true, or-false}
 use Rattle.history.specs.History.{whole}
 use Rattle.post_filter.specs.Limits.{filterFits}
-use Rattle.state.specs.Settings.{orElse, within, checkSettings, needed}
+use Rattle.settings.specs.Number.{orElse, within}
+use Rattle.settings.specs.Settings.{checkSettings, needed}
 use Rattle.state.specs.State.{core, noisy, searches}
 use Rattle.state.specs.Refusal.{lagLeast, lagMost, checkCount, checkLag, checkFilter, checkHistory, checkPcm, refusesState, refusal, AcceptedState}
-use Rattle.state.specs.declared.Settings.{Settings}
+use Rattle.settings.specs.declared.Settings.{Settings}
 use Rattle.state.specs.declared.State.{State}
-use Rattle.state.proofs.Passed.{or-zero, passes}
+use Rattle.settings.proofs.Passed.{or-zero, passes}
 
 -- none of 1 to 5 and 7 to 9, though 6 may come to apply
 pub record Ok (s : State) (h : List Float) : Type 0 where

@@ -1,3 +1,2 @@
-pub mod Passed
-mod Table
 pub mod Keep
+mod Lag

@@ -1,5 +1,4 @@
 -- What a decoder carries, which states and buffers are refused, and what a call answers.
-pub mod Settings
 pub mod State
 pub mod Refusal
 pub mod Answer

@@ -9,7 +9,8 @@ use lib.Ieee.{Float}
 use Rattle.history.specs.History.{whole}
 use Rattle.post_filter.specs.Limits.{filterFits}
 use Rattle.post_filter.specs.declared.Filter.{Filter}
-use Rattle.state.specs.Settings.{orElse, within, checkSettings, needed}
+use Rattle.settings.specs.Number.{orElse, within}
+use Rattle.settings.specs.Settings.{checkSettings, needed}
 use Rattle.state.specs.declared.State.{State}
 
 -- the shortest lag and the longest

@@ -4,7 +4,7 @@ use mathlib.Core.List.{List}
 use Prim.Native.Nat.{ℕ}
 use lib.Dec.{leb, eqb}
 use lib.Ieee.{Float}
-use Rattle.state.specs.declared.Settings.{Settings}
+use Rattle.settings.specs.declared.Settings.{Settings}
 use Rattle.state.specs.declared.State.{State}
 
 -- settings, loss count, seed and energies: all that the noise path reads of a state

@@ -2,7 +2,7 @@
 use mathlib.Core.Path.{ap, _∙_}
 use lib.ListN.{length}
 use borrow.Author.Needs.{needs}
-use Rattle.ref_decode.specs.Loss.{inBuffer}
+use Rattle.loss.specs.Loss.{inBuffer}
 use Rattle.answer.proofs.Answers.{outcome-from}
 use Rattle.answer.proofs.conceal_record.Statement.{statement}
 use Rattle.answer.proofs.conceal_record.Tie as tie

@@ -9,8 +9,8 @@ use borrow.Author.Needs.{needs}
 use Rattle.loops.specs.Part.{put}
 use Rattle.buffers.specs.Buffers.{zero32}
 use Rattle.history.specs.History.{half, overlap, tailAt, tailList}
-use Rattle.state.specs.Settings.{frame}
-use Rattle.state.proofs.Passed.{frame-is, frame-low, frame-high}
+use Rattle.settings.specs.Settings.{frame}
+use Rattle.settings.proofs.Passed.{frame-is, frame-low, frame-high}
 use Rattle.noise_block.specs.Block.{Block, drawnBlock}
 use Rattle.noise_block.proofs.Calls.{lent-count, back-size, back-is, back-in, back-count}
 use Rattle.noise_loss.specs.Cover.{overlapped, coveredTail}

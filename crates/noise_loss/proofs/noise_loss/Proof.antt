@@ -2,7 +2,7 @@ use mathlib.Core.Path.{refl, _∙_, sym}
 use lib.ListN.{length}
 use borrow.Author.Needs.{needs}
 use Rattle.loops.specs.Reply.{reply-yes, reply-no}
-use Rattle.state.proofs.Passed.{good}
+use Rattle.settings.proofs.Passed.{good}
 use Rattle.noise_loss.proofs.Channels.{takes-whole, takes-no-settings, takes-not-whole}
 use Rattle.noise_loss.proofs.noise_loss.Statement.{statement}
 use Rattle.noise_loss.proofs.noise_loss.Tie as tie

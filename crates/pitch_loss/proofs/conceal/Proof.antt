@@ -2,7 +2,7 @@ use mathlib.Core.Path.{_≡_}
 use mathlib.Core.Bool.{true, false}
 use borrow.Author.Needs.{needs}
 use borrow.Author.Tests.{eq-eqb, ne-eqb}
-use Rattle.state.specs.Settings.{stereo}
+use Rattle.settings.specs.Settings.{stereo}
 use Rattle.pitch_loss.proofs.Tails.{used-is}
 use Rattle.pitch_loss.proofs.conceal.Statement.{statement}
 use Rattle.pitch_loss.proofs.conceal.Tie as tie

@@ -2,8 +2,8 @@ use mathlib.Core.Path.{_≡_}
 use Prim.Native.Nat.{_≤_}
 use native.Mathlib.Omega.{arith}
 use borrow.Author.Needs.{needs}
-use Rattle.state.specs.Settings.{frame}
-use Rattle.state.proofs.Passed.{frame-is, frame-high}
+use Rattle.settings.specs.Settings.{frame}
+use Rattle.settings.proofs.Passed.{frame-is, frame-high}
 use Rattle.pitch_loss.specs.PitchLoss.{longestFrame}
 use Rattle.pitch_loss.proofs.frame_of.Statement.{statement}
 use Rattle.pitch_loss.proofs.frame_of.Tie as tie

@@ -4,7 +4,7 @@ use lib.Dec.{eqb}
 use borrow.Author.Needs.{needs}
 use borrow.Author.Tests.{eq-eqb, ne-eqb, le-leb, lt-leb, not-true, not-false}
 use Rattle.history.specs.History.{whole}
-use Rattle.state.specs.Settings.{checkSettings}
+use Rattle.settings.specs.Settings.{checkSettings}
 use Rattle.state.specs.Refusal.{lagLeast, lagMost}
 use Rattle.pitch_loss.specs.PitchLoss.{pitchTakes}
 use Rattle.pitch_loss.proofs.takes.Statement.{statement}

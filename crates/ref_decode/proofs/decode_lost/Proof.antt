@@ -2,7 +2,7 @@
 use mathlib.Core.Path.{_≡_, _∙_, sym}
 use lib.ListN.{length}
 use Rattle.state.specs.Refusal.{refusal}
-use Rattle.ref_decode.specs.Loss.{concealed, loss, inBuffer}
+use Rattle.loss.specs.Loss.{concealed, loss, inBuffer}
 use Rattle.ref_decode.proofs.Entry.{accepted-left, refused-left}
 use borrow.Author.Needs.{needs}
 use Rattle.ref_decode.proofs.decode_lost.Statement.{statement}

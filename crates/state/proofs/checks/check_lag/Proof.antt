@@ -1,14 +1,11 @@
 -- `state::checks::check_lag` meets its contract: a carried lag is read at start 0 and loss counts 1 to 4.
-use mathlib.Core.Path.{_≡_}
-use mathlib.Core.Bool.{true, false}
-use Rattle.state.specs.Settings.{within}
-use borrow.Author.Tests.{eq-eqb, ne-eqb}
+use Rattle.state.proofs.Lag.{other-start, lag-read, lag-unread}
 use borrow.Author.Needs.{needs}
 use Rattle.state.proofs.checks.check_lag.Statement.{statement}
 use Rattle.state.proofs.checks.check_lag.Tie as tie
 
 returns : tie.Need-returns
-returns c = let x = c .before .args in simp (ne-eqb (x .start) 0 (search needs))
+returns c = let x = c .before .args in other-start (x .start) (x .c) (x .lag) (search needs)
 
 is-within-requires : tie.Need-is-within-requires
 is-within-requires c κs = search needs
@@ -22,14 +19,12 @@ unless-requires c κs = search needs
 returns-2 : tie.Need-returns-2
 returns-2 c =
     let x = c .before .before .before .before .before .args in
-    let w : within 1 4 (x .c) ≡ true = cc in
-    rw (eq-eqb (x .start) 0 (search needs), w) (cc)
+    lag-read (x .start) (x .c) (x .lag) _ _ _ (search needs) (c .before .before .before .is-within .ensures) (c .before .before .if2 .taken) (c .before .is-within2 .ensures) (c .unless .ensures)
 
 returns-3 : tie.Need-returns-3
 returns-3 c =
     let x = c .before .before .before .args in
-    let w : within 1 4 (x .c) ≡ false = cc in
-    rw (eq-eqb (x .start) 0 (search needs), w)
+    lag-unread (x .start) (x .c) (x .lag) _ (search needs) (c .before .is-within .ensures) (c .if2 .left)
 
 pub check-lag-spec : {M : Type 1} → statement M
 check-lag-spec =

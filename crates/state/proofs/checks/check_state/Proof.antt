@@ -1,7 +1,7 @@
 -- `state::checks::check_state` meets its contract: the first of five.
 use mathlib.Core.Path.{ap, ap₂, _∙_}
 use mathlib.Core.Bool.{cond}
-use Rattle.state.specs.Settings.{orElse}
+use Rattle.settings.specs.Number.{orElse}
 use Rattle.state.specs.Refusal.{refusesState}
 use borrow.Author.Needs.{needs}
 use Rattle.state.proofs.checks.check_state.Statement.{statement}

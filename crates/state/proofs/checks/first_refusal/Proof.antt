@@ -2,7 +2,7 @@
 use mathlib.Core.Path.{ap, ap₂, _∙_}
 use mathlib.Core.Bool.{cond}
 use lib.Dec.{leb}
-use Rattle.state.specs.Settings.{orElse}
+use Rattle.settings.specs.Number.{orElse}
 use Rattle.state.specs.Refusal.{refusal}
 use borrow.Author.Needs.{needs}
 use Rattle.state.proofs.checks.first_refusal.Statement.{statement}

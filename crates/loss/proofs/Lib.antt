@@ -1,0 +1,5 @@
+pub mod Lags
+pub mod Laws
+pub mod Keep
+pub mod Samples
+pub mod Call

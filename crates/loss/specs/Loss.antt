@@ -1,0 +1,138 @@
+-- One loss: a call to conceal a frame, lent a history and a PCM buffer.
+use mathlib.Core.Bool.{cond}
+use mathlib.Core.List.{List, []}
+use Prim.Native.Nat.{ℕ, zero, suc, _+_}
+use lib.ListN.{length}
+use lib.Dec.{eqb}
+use lib.Ieee.{Float}
+use Rattle.loops.specs.Front.{front}
+use Rattle.history.specs.History.{Tails, tails, withTails, newest}
+use Rattle.settings.specs.Settings.{frame, stereo, needed}
+use Rattle.state.specs.State.{Core, core, noisy, searches}
+use Rattle.state.specs.Refusal.{refusal}
+use Rattle.state.specs.Answer.{Report, reportOf}
+use Rattle.settings.specs.declared.Settings.{Settings}
+use Rattle.state.specs.declared.State.{State}
+use Rattle.state.specs.declared.Answer.{Answer}
+use Rattle.pitch_fit.specs.Lag.{lagOf}
+use Rattle.pitch_fit.specs.Fit.{fittedTo}
+use Rattle.pitch_loss.specs.PitchLoss.{pitchTails}
+use Rattle.noise_energies.specs.Energies.{lowerEnergies, readEnergies}
+use Rattle.noise_loss.specs.Loss.{Blocks, noiseBlocks, noiseSeed, noiseTails}
+use Rattle.deemphasis.specs.Deemphasis.{Sound, sound, deemphasis}
+use Rattle.loss.specs.declared.Made.{Made}
+
+-- ---- the noise path: all of it but the old overlaps' part is a function of the core
+
+-- the coarse energies after it
+unfoldable pub lowered : Core → List Float
+lowered c = lowerEnergies (c .settings .channels) (c .settings .start) (c .settings .end) (c .count) (c .coarse)
+
+-- the used channels' blocks, by the energies that it reads
+unfoldable pub blocks : Core → Blocks
+blocks c = noiseBlocks (c .settings) (c .seed) (readEnergies (c .count) (lowered c) (c .background))
+
+unfoldable pub noiseMade : State → Made
+noiseMade s = record {
+  kind = 2;
+  seed = noiseSeed (stereo (s .settings)) (blocks (core s));
+  lag = s .lag;
+  coarse = lowered (core s);
+  predictor = s .predictor;
+}
+
+-- ---- the pitch path: its first loss searches the whole history, and every later one reads the tails alone
+
+unfoldable pub pitchMade : State → List Float → Made
+pitchMade s h = record {
+  kind = 1;
+  seed = s .seed;
+  lag = cond (searches s) (lagOf (stereo (s .settings)) h) (s .lag);
+  coarse = s .coarse;
+  predictor = cond (searches s) (fittedTo (stereo (s .settings)) (s .predictor) (tails h)) (s .predictor);
+}
+
+-- ---- either path
+
+unfoldable pub made : State → List Float → Made
+made s h = cond (noisy (core s)) (noiseMade s) (pitchMade s h)
+
+-- the tails that it leaves
+unfoldable pub tailsByNoise : State → Tails → Tails
+tailsByNoise s t = noiseTails (stereo (s .settings)) (frame (s .settings)) (blocks (core s)) t
+
+unfoldable pub tailsByPitch : State → Made → Tails → Tails
+tailsByPitch s m t = pitchTails (stereo (s .settings)) (frame (s .settings)) (m .lag) (eqb (s .«loss_count») 0) (m .predictor) (s .filter) t
+
+unfoldable pub tailsAfter : State → Made → Tails → Tails
+tailsAfter s m t = cond (noisy (core s)) (tailsByNoise s t) (tailsByPitch s m t)
+
+unfoldable pub historyAfter : State → List Float → List Float
+historyAfter s h = withTails h (tailsAfter s (made s h) (tails h))
+
+-- ---- the whole call
+
+pub record Outcome : Type 0 where
+  pub report : Report
+  -- the samples written
+  pub pcm : List Float
+  pub state : State
+  pub history : List Float
+
+-- de-emphasis of the newest N of each used channel
+unfoldable pub frameSound : Settings → List Float → List Float → Sound
+frameSound k memories h = deemphasis (k .downsample) (newest (stereo k) (frame k) h) memories
+
+-- an accepted loss, from what its path made, the history that it left, its sound and its number of samples
+abbrev pub finishWith : State → Made → List Float → Sound → ℕ → Outcome
+finishWith s m h y n = record {
+  report = record { number = 0; kind = m .kind; samples = n };
+  pcm = y .pcm;
+  state = record {
+    settings = s .settings;
+    «loss_count» = s .«loss_count» + 1;
+    seed = m .seed;
+    lag = m .lag;
+    filter = s .filter;
+    coarse = m .coarse;
+    background = s .background;
+    memories = y .memories;
+    predictor = m .predictor;
+  };
+  history = h;
+}
+
+unfoldable pub finish : State → Made → List Float → Outcome
+finish s m h = finishWith s m h (frameSound (s .settings) (s .memories) h) (needed (s .settings))
+
+-- an accepted loss
+unfoldable pub concealed : State → List Float → Outcome
+concealed s h = finish s (made s h) (historyAfter s h)
+
+-- a refused one leaves all as it was
+unfoldable pub refused : ℕ → State → List Float → Outcome
+refused n s h = record { report = record { number = n; kind = 0; samples = 0 }; pcm = []; state = s; history = h }
+
+-- by the number
+unfoldable pub answered : ℕ → State → List Float → Outcome
+answered zero s h = concealed s h
+answered (suc n) s h = refused (suc n) s h
+
+-- one call, lent a PCM buffer of p samples
+unfoldable pub loss : State → List Float → ℕ → Outcome
+loss s h p = answered (refusal s (length h) p) s h
+
+-- ---- the same as a caller finds it: the answer, the PCM buffer and the history
+
+abbrev pub outcomeOf : Answer → List Float → List Float → Outcome
+outcomeOf a pcm h = record { report = reportOf a; pcm = pcm; state = a .state; history = h }
+
+-- samples written into a buffer's first places; the rest of a longer one is as it was
+abbrev pub written : List Float → List Float → List Float
+written x p = front x p (length x)
+
+unfoldable pub inBuffer : List Float → Outcome → Outcome
+inBuffer p o = record { report = o .report; pcm = written (o .pcm) p; state = o .state; history = o .history }
+
+unfoldable pub soundIn : List Float → Sound → Sound
+soundIn p y = sound (written (y .pcm) p) (y .memories)

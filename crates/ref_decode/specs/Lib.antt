@@ -1,2 +1,0 @@
--- One loss: what `decode_lost` computes.
-pub mod Loss
