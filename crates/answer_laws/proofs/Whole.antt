@@ -12,17 +12,17 @@ use Rattle.loops.specs.Front.{front}
 use Rattle.loops.specs.Pick.{pick-true}
 use Rattle.record.specs.Record.{recordLength}
 use Rattle.answer.specs.Answer.{headMost, reportLength, lossOf, headOf, recordAfter, cutOf, answersTo, answers, headed, headedBy, withRecord, takes, answerRecord, answerTail}
-use Rattle.answer_laws.specs.Program.{buffer, written, wholeStep, program}
+use Rattle.answer_laws.specs.Program.{buffer, headBytes, wholeStep, program}
 
 -- what stands at the front of a head is written
-front-written : (xs head : List ℕ) → written (headedBy xs head) ≡ xs
+front-written : (xs head : List ℕ) → headBytes (headedBy xs head) ≡ xs
 unfolding front
 front-written xs head = take-at xs (drop (length xs) head) (length xs) refl
 
-tail-written : (n : ℕ) → written (answerTail n buffer) ≡ cutOf n
+tail-written : (n : ℕ) → headBytes (answerTail n buffer) ≡ cutOf n
 unfolding answerTail
 tail-written n =
-    ap written (pick-true (leb reportLength (length buffer)) (headedBy (cutOf n) buffer) (headed 0 buffer) (le-leb reportLength (length buffer) (omega (arith, length-replicate {A = ℕ} headMost 0))))
+    ap headBytes (pick-true (leb reportLength (length buffer)) (headedBy (cutOf n) buffer) (headed 0 buffer) (le-leb reportLength (length buffer) (omega (arith, length-replicate {A = ℕ} headMost 0))))
     ∙ front-written (cutOf n) buffer
 
 whole-written : (b : List ℕ) → length b ≡ recordLength → wholeStep b ≡ headOf (lossOf b) ++ recordAfter b
@@ -30,7 +30,7 @@ unfolding wholeStep answerRecord takes
 whole-written b l =
     let a = withRecord (headedBy (headOf (lossOf b)) buffer) (recordAfter b) in
     let t : takes b buffer ≡ true = simp (eq-eqb (length b) recordLength l, le-leb headMost (length buffer) (omega (arith, length-replicate {A = ℕ} headMost 0))) in
-    ap (λ z. written (z .headed) ++ z .rec) (pick-true (takes b buffer) a (withRecord (headed 0 buffer) b) t)
+    ap (λ z. headBytes (z .headed) ++ z .rec) (pick-true (takes b buffer) a (withRecord (headed 0 buffer) b) t)
     ∙ ap (λ z. z ++ recordAfter b) (front-written (headOf (lossOf b)) buffer)
 
 -- by the whole records of the input
@@ -41,7 +41,7 @@ program-answers (suc turns) b l = go (program-answers turns (drop recordLength b
   where
     go : (length (drop recordLength b) / recordLength < turns → program turns (drop recordLength b) ≡ answers (drop recordLength b))
         → (c : Bool) → ltb (length b) recordLength ≡ c
-        → cond c (written (answerTail (length b) buffer)) (wholeStep (take recordLength b) ++ program turns (drop recordLength b)) ≡ answersTo (length b / recordLength) b
+        → cond c (headBytes (answerTail (length b) buffer)) (wholeStep (take recordLength b) ++ program turns (drop recordLength b)) ≡ answersTo (length b / recordLength) b
     go again true e =
         let none : length b / recordLength ≡ 0 = omega (arith, ltb-true (length b) recordLength e) in
         tail-written (length b) ∙ sym (ap (λ n. answersTo n b) none)

@@ -12,16 +12,16 @@ abbrev pub buffer : List ℕ
 buffer = replicate headMost 0
 
 -- what is written of a head: as many bytes as the step returned
-abbrev pub written : Headed → List ℕ
-written h = take (h .count) (h .head)
+abbrev pub headBytes : Headed → List ℕ
+headBytes h = take (h .count) (h .head)
 
 -- a whole record: its head, and the record as the step left it
 unfoldable pub wholeStep : List ℕ → List ℕ
-wholeStep b = let a = answerRecord b buffer in written (a .headed) ++ a .rec
+wholeStep b = let a = answerRecord b buffer in headBytes (a .headed) ++ a .rec
 
 -- at most `turns` turns; the one that finds no whole record is the last
 unfoldable pub program : ℕ → List ℕ → List ℕ
 program zero b = []
 program (suc turns) b =
-    cond (ltb (length b) recordLength) (written (answerTail (length b) buffer))
+    cond (ltb (length b) recordLength) (headBytes (answerTail (length b) buffer))
     (wholeStep (take recordLength b) ++ program turns (drop recordLength b))

@@ -28,10 +28,6 @@ pub draws-more : (d s : ℕ) → draws (d + 1) s ≡ draw (draws d s)
 unfolding draws
 draws-more d s = draws-add d 1 s
 
-pub draws-first : (d s : ℕ) → draws (d + 1) s ≡ draws d (draw s)
-unfolding draws
-draws-first d s = ap (λ n. draws n s) (add-one d)
-
 -- a seed is a 32-bit word
 pub draw-word : (s : ℕ) → draw s < 2 ^ 32
 unfolding draw

@@ -17,7 +17,3 @@ noiseBand n seed = tab (noiseAt seed) n
 pub length-noiseBand : (n seed : ℕ) → length (noiseBand n seed) ≡ n
 unfolding noiseBand
 length-noiseBand n seed = length-tab (noiseAt seed) n
-
-pub getD-noiseBand : (n seed i : ℕ) (d : Float) → i < n → getD (noiseBand n seed) i d ≡ noiseAt seed i
-unfolding noiseBand
-getD-noiseBand n seed i d h = getD-tab (noiseAt seed) n i d h

@@ -10,7 +10,7 @@ use lib.IntN.{pos}
 use lib.ListN.{length, getD}
 use lib.Ieee.{nan, fin, ofBits}
 use Rattle.cosine_table.specs.Cosines.{cosineBits, cosines, length-cosines}
-use Rattle.cosine_table.specs.Scaled.{scaled, isScaled, getD-scaled, both, both-left, both-right, every, every-at}
+use Rattle.cosine_table.specs.Scaled.{scaled, isScaled, getD-scaled, andThen, andThen-left, andThen-right, every, every-at}
 
 -- entry j times 2 ^ 63
 abbrev pub scaledCosine : ℕ → ℕ
@@ -35,36 +35,36 @@ under : ℕ → ℕ → ℕ → ℕ → Bool
 under u a b c = leb (2 * u * b) ((a + c) * 2 ^ 63 + 2 ^ 75)
 
 near : ℕ → ℕ → ℕ → ℕ → Bool
-near u a b c = both (ltb c b) (both (over u a b c) (under u a b c))
+near u a b c = andThen (ltb c b) (andThen (over u a b c) (under u a b c))
 
 steps : ℕ → ℕ → ℕ → List ℕ → Bool
 steps u a b [] = true
-steps u a b (c ∷ cs) = both (near u a b c) (steps u b c cs)
+steps u a b (c ∷ cs) = andThen (near u a b c) (steps u b c cs)
 
 test : List ℕ → Bool
 test [] = false
 test (a ∷ []) = false
-test (a ∷ b ∷ cs) = both (ltb b a) (steps b a b cs)
+test (a ∷ b ∷ cs) = andThen (ltb b a) (steps b a b cs)
 
 steps-at : (u a b : ℕ) (cs : List ℕ) → T (steps u a b cs) → (k : ℕ) → k < length cs
     → T (near u (getD (a ∷ b ∷ cs) k 0) (getD (b ∷ cs) k 0) (getD cs k 0))
 unfolding steps
 steps-at u a b [] t k h = absurd (not-suc-le-zero h)
-steps-at u a b (c ∷ cs) t zero h = both-left (near u a b c) (steps u b c cs) t
-steps-at u a b (c ∷ cs) t (suc k) h = steps-at u b c cs (both-right (near u a b c) (steps u b c cs) t) k (le-of-suc-le-suc h)
+steps-at u a b (c ∷ cs) t zero h = andThen-left (near u a b c) (steps u b c cs) t
+steps-at u a b (c ∷ cs) t (suc k) h = steps-at u b c cs (andThen-right (near u a b c) (steps u b c cs) t) k (le-of-suc-le-suc h)
 
 test-at : (xs : List ℕ) → T (test xs) → (k : ℕ) → suc (suc k) < length xs
     → T (near (getD xs 1 0) (getD xs k 0) (getD xs (suc k) 0) (getD xs (suc (suc k)) 0))
 unfolding test
 test-at [] t k h = absurd t
 test-at (a ∷ []) t k h = absurd t
-test-at (a ∷ b ∷ cs) t k h = steps-at b a b cs (both-right (ltb b a) (steps b a b cs) t) k (le-of-suc-le-suc (le-of-suc-le-suc h))
+test-at (a ∷ b ∷ cs) t k h = steps-at b a b cs (andThen-right (ltb b a) (steps b a b cs) t) k (le-of-suc-le-suc (le-of-suc-le-suc h))
 
 test-first : (xs : List ℕ) → T (test xs) → getD xs 1 0 < getD xs 0 0
 unfolding test
 test-first [] t = absurd t
 test-first (a ∷ []) t = absurd t
-test-first (a ∷ b ∷ cs) t = ltb→lt b a (both-left (ltb b a) (steps b a b cs) t)
+test-first (a ∷ b ∷ cs) t = ltb→lt b a (andThen-left (ltb b a) (steps b a b cs) t)
 
 table-whole : T (every (λ j. isScaled 63) 0 cosines)
 unfolding every isScaled cosines cosineBits ofBits
@@ -87,19 +87,19 @@ start = simp (getD-scaled 63) at (test-first (map (scaled 63) cosines) table-nea
 module _ (u a b c : ℕ) (t : T (near u a b c)) where
   less : c < b
   unfolding near
-  less = ltb→lt c b (both-left (ltb c b) (both (over u a b c) (under u a b c)) t)
+  less = ltb→lt c b (andThen-left (ltb c b) (andThen (over u a b c) (under u a b c)) t)
 
-  sides : T (both (over u a b c) (under u a b c))
+  sides : T (andThen (over u a b c) (under u a b c))
   unfolding near
-  sides = both-right (ltb c b) (both (over u a b c) (under u a b c)) t
+  sides = andThen-right (ltb c b) (andThen (over u a b c) (under u a b c)) t
 
   most : (a + c) * 2 ^ 63 ≤ 2 * u * b + 2 ^ 75
   unfolding over
-  most = leb→le ((a + c) * 2 ^ 63) (2 * u * b + 2 ^ 75) (both-left (over u a b c) (under u a b c) sides)
+  most = leb→le ((a + c) * 2 ^ 63) (2 * u * b + 2 ^ 75) (andThen-left (over u a b c) (under u a b c) sides)
 
   least : 2 * u * b ≤ (a + c) * 2 ^ 63 + 2 ^ 75
   unfolding under
-  least = leb→le (2 * u * b) ((a + c) * 2 ^ 63 + 2 ^ 75) (both-right (over u a b c) (under u a b c) sides)
+  least = leb→le (2 * u * b) ((a + c) * 2 ^ 63 + 2 ^ 75) (andThen-right (over u a b c) (under u a b c) sides)
 
 fall : (j : ℕ) → j < 1920 → scaledCosine (suc j) < scaledCosine j
 fall zero h = start

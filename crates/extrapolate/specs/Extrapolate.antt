@@ -23,10 +23,6 @@ order = 24
 unfoldable pub recent : List Float → List Float
 recent new = tab (λ (j : ℕ). getD new (half - 1 - j) nan) order
 
-pub length-recent : (new : List Float) → length (recent new) ≡ order
-unfolding recent
-length-recent new = length-tab _ order
-
 -- the samples less what the predictor foresees; the filter's memory is the newest end, as the Rust has it
 unfoldable pub excitation : List Float → List Float → List Float
 excitation c new = celtFir c (recent new) new

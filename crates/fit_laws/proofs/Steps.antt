@@ -34,7 +34,7 @@ use Rattle.noise_loss.specs.Cover.{overlapped, coveredTail}
 use Rattle.noise_loss.specs.Loss.{channelBlock, Blocks, noiseBlocks, noiseTails}
 use Rattle.deemphasis.specs.Deemphasis.{nextMemory, memoryTo, deemphasis}
 use Rattle.settings.specs.declared.Settings.{Settings}
-use Rattle.fit_laws.specs.Values.{Single, AllSingle, all-at, all-append, all-take, all-drop, all-slice, all-set, all-map, all-replicate, all-tab, all-cond, holds}
+use Rattle.fit_laws.specs.Values.{Single, AllSingle, all-at, all-append, all-take, all-drop, all-slice, all-set, all-map, all-replicate, all-tab, all-cond, fold-holds}
 
 -- ---- energies and memories
 
@@ -50,7 +50,7 @@ pub memories-single : (d : ℕ) (vs : List (List Float)) (m : List Float) → Al
 unfolding deemphasis memoryTo nextMemory
 memories-single d vs m a =
     all-append _ (drop (length vs) m)
-    (all-tab _ (length vs) (λ c. holds Single _ (getD m c nan) (length (getD vs 0 [])) (all-at m c a) (λ x i s. sub-fits binary32 _ _)))
+    (all-tab _ (length vs) (λ c. fold-holds Single _ (getD m c nan) (length (getD vs 0 [])) (all-at m c a) (λ x i s. sub-fits binary32 _ _)))
     (all-drop (length vs) m a)
 
 -- ---- the predictor
@@ -66,7 +66,7 @@ turn-single ac s i a = go (s .done)
 
     go : (b : Bool) → AllSingle (cond b s (lpcWith ac s i r) .lpc)
     go true = a
-    go false = holds AllSingle (crossed r i) (set (s .lpc) i r) _ (all-set (s .lpc) i r a (div-fits binary32 _ _)) (λ l j p. crossed-single r i l j p)
+    go false = fold-holds AllSingle (crossed r i) (set (s .lpc) i r) _ (all-set (s .lpc) i r a (div-fits binary32 _ _)) (λ l j p. crossed-single r i l j p)
 
 lpc-single : (ac : List Float) (p : ℕ) → AllSingle (celtLpc ac p)
 unfolding celtLpc lpcTo
@@ -74,7 +74,7 @@ lpc-single ac p =
     let zeros = all-replicate p zero32 (ofBits-fits binary32 0) in
     let start : Lpc = record { lpc = replicate p zero32; error = getD ac 0 nan; done = false } in
     all-cond (eq (getD ac 0 nan) zero32) (replicate p zero32) (lpcTo ac p p .lpc) zeros
-    (holds (λ (s : Lpc). AllSingle (s .lpc)) (lpcTurn ac) start p zeros (turn-single ac))
+    (fold-holds (λ (s : Lpc). AllSingle (s .lpc)) (lpcTurn ac) start p zeros (turn-single ac))
 
 pub fitted-single : (two : Bool) (p : List Float) (t : Tails) → AllSingle p → AllSingle (fittedTo two p t)
 unfolding fittedTo pitchFit
@@ -95,7 +95,7 @@ unfolding iirTo iirAt AllSingle
 iir-single den mem x zero a = tt
 iir-single den mem x (suc n) a =
     all-append (iirTo den mem x n) _ (iir-single den mem x n a)
-    (holds Single _ (getD x n nan) (length den) (all-at x n a) (λ s j p. sub-fits binary32 _ _), tt)
+    (fold-holds Single _ (getD x n nan) (length den) (all-at x n a) (λ s j p. sub-fits binary32 _ _), tt)
 
 guarded-single : (s1 : Float) (e : List Float) → AllSingle e → AllSingle (guarded s1 e)
 unfolding guarded guardedAt

@@ -72,10 +72,10 @@ all-cond true xs ys p q = p
 all-cond false xs ys p q = q
 
 -- what each turn keeps, a loop keeps
-pub holds : {A : Type 0} (P : A → Type 0) (f : A → ℕ → A) (a : A) (n : ℕ) → P a → ((x : A) (i : ℕ) → P x → P (f x i)) → P (foldTo f a n)
+pub fold-holds : {A : Type 0} (P : A → Type 0) (f : A → ℕ → A) (a : A) (n : ℕ) → P a → ((x : A) (i : ℕ) → P x → P (f x i)) → P (foldTo f a n)
 unfolding foldTo
-holds P f a zero p s = p
-holds P f a (suc n) p s = s (foldTo f a n) n (holds P f a n p s)
+fold-holds P f a zero p s = p
+fold-holds P f a (suc n) p s = s (foldTo f a n) n (fold-holds P f a n p s)
 
 -- by index, as a record's reader has it, and back
 pub all-index : (xs : List Float) → AllSingle xs → (i : ℕ) → i < length xs → Single (getD xs i nan)

@@ -48,24 +48,12 @@ pub record Sized (t : Tails) : Type 0 where
   pub first : TailSized (t .first)
   pub second : TailSized (t .second)
 
-pub length-tailList : (t : Tail) → TailSized t → length (tailList t) ≡ half + overlap
-unfolding tailList
-length-tailList t z = omega (arith, length-append (t .new) (t .over), z .new, z .over)
-
-pub tailOf-sized : (x : List Float) → length x ≡ half + overlap → TailSized (tailOf x)
-unfolding tailOf
-tailOf-sized x l = record { new = length-take-le half x (omega arith); over = omega (arith, length-drop half x) }
-
 pub tailOf-list : (t : Tail) → TailSized t → tailOf (tailList t) ≡ t
 unfolding tailOf tailList
 tailOf-list t z =
     let p = take-at (t .new) (t .over) half (z .new) in
     let q = drop-at (t .new) (t .over) half (z .new) in
     λ i. record { new = p i; over = q i }
-
-pub list-tailOf : (x : List Float) → tailList (tailOf x) ≡ x
-unfolding tailOf tailList
-list-tailOf x = take-append-drop half x
 
 module _ (h : List Float) (l : length h ≡ whole) where
   pub first-sized : TailSized (tailAt 0 h)

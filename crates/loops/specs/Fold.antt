@@ -58,38 +58,8 @@ range-more f a b lo i e h =
     let q : i - lo + 1 ≡ i + 1 - lo = omega arith in
     ap (f b) (sym p) ∙ fold-more (λ s k. f s (lo + k)) a b (i - lo) e ∙ ap (foldTo (λ s k. f s (lo + k)) a) q
 
--- only how far the end is from the start counts
-pub range-end : {A : Type 0} (f : A → ℕ → A) (a : A) (lo i n : ℕ) → i - lo ≡ n - lo → foldRange f a lo i ≡ foldRange f a lo n
-unfolding foldRange
-range-end f a lo i n e = ap (foldTo (λ s k. f s (lo + k)) a) e
-
 -- what each turn keeps, the fold keeps
 pub fold-keeps : {A B : Type 0} (g : A → B) (f : A → ℕ → A) (a : A) (n : ℕ) → ((s : A) (i : ℕ) → g (f s i) ≡ g s) → g (foldTo f a n) ≡ g a
 unfolding foldTo
 fold-keeps g f a zero k = refl
 fold-keeps g f a (suc n) k = k (foldTo f a n) n ∙ fold-keeps g f a n k
-
--- what each turn keeps, the whole keeps
-pub range-keeps : {A B : Type 0} (g : A → B) (f : A → ℕ → A) (a : A) (lo hi : ℕ) → ((s : A) (i : ℕ) → g (f s i) ≡ g s) → g (foldRange f a lo hi) ≡ g a
-unfolding foldRange
-range-keeps g f a lo hi k = fold-keeps g (λ s j. f s (lo + j)) a (hi - lo) (λ s j. k s (lo + j))
-
--- `for i in (lo..hi).rev()`: the turns hi - 1 down to lo
-unfoldable pub foldDown : {A : Type 0} → (A → ℕ → A) → A → ℕ → ℕ → A
-foldDown f a hi lo = foldTo (λ s k. f s (hi - 1 - k)) a (hi - lo)
-
-pub down-none : {A : Type 0} (f : A → ℕ → A) (a : A) (hi lo : ℕ) → hi ≤ lo → foldDown f a hi lo ≡ a
-unfolding foldDown foldTo
-down-none f a hi lo h = let e : hi - lo ≡ 0 = omega arith in ap (foldTo (λ s k. f s (hi - 1 - k)) a) e
-
--- the turns from j up are done, and the next is j - 1
-pub down-more : {A : Type 0} (f : A → ℕ → A) (a b : A) (hi j : ℕ) → b ≡ foldDown f a hi j → 0 < j → j ≤ hi → f b (j - 1) ≡ foldDown f a hi (j - 1)
-unfolding foldDown
-down-more f a b hi j e g h =
-    let p : hi - 1 - (hi - j) ≡ j - 1 = omega arith in
-    let q : hi - j + 1 ≡ hi - (j - 1) = omega arith in
-    ap (f b) (sym p) ∙ fold-more (λ s k. f s (hi - 1 - k)) a b (hi - j) e ∙ ap (foldTo (λ s k. f s (hi - 1 - k)) a) q
-
-pub down-keeps : {A B : Type 0} (g : A → B) (f : A → ℕ → A) (a : A) (hi lo : ℕ) → ((s : A) (i : ℕ) → g (f s i) ≡ g s) → g (foldDown f a hi lo) ≡ g a
-unfolding foldDown
-down-keeps g f a hi lo k = fold-keeps g (λ s j. f s (hi - 1 - j)) a (hi - lo) (λ s j. k s (hi - 1 - j))

@@ -25,16 +25,9 @@ module _ {A : Type 0} (d : A) (xs b out : List A) (i : ℕ) (e : b ≡ front out
       ap (λ z. set z i v) (e ∙ ap (λ z. out ++ z) (drop-cons xs i d h)) ∙ set-at out _ _ v i l
       ∙ sym (append-snoc out v _) ∙ ap (λ z. (out ++ (v ∷ [])) ++ drop z xs) (sym (add-one i))
 
-  pub front-size : (v : A) → length (out ++ (v ∷ [])) ≡ i + 1
-  front-size v = length-append out (v ∷ []) ∙ ap (λ z. z + 1) l
-
   pub front-all : length xs ≤ i → b ≡ out
   unfolding front
   front-all h = e ∙ ap (λ z. out ++ z) (drop-of-length-le xs {i = i} h) ∙ append-nil out
-
-pub front-none : {A : Type 0} (xs : List A) → xs ≡ front [] xs 0
-unfolding front
-front-none xs = refl
 
 -- a list that is filled from the front with v
 pub fill-none : {A : Type 0} (v : A) (xs : List A) → xs ≡ front (replicate 0 v) xs 0
@@ -79,14 +72,6 @@ module _ {A : Type 0} (f : A → A) (d : A) (xs b : List A) (i : ℕ) (e : b ≡
   pub map-all : length xs ≡ i → b ≡ map f xs
   map-all h =
       front-all d xs b (map f (take i xs)) i e (size (omega arith)) (omega arith) ∙ ap (λ z. map f (take z xs)) (sym h) ∙ ap (map f) (take-length xs)
-
--- a part from a, k long, that comes back as f of each of its elements
-pub part-map : {A : Type 0} (f : A → A) (a k n : ℕ) (h y : List A) → y ≡ map f (take k (drop a h)) → k ≡ n
-    → take a h ++ (y ++ drop k (drop a h)) ≡ take a h ++ (map f (take n (drop a h)) ++ drop (a + n) h)
-part-map f a k n h y e q =
-    ap (λ z. take a h ++ (z ++ drop k (drop a h))) e
-    ∙ ap (λ z. take a h ++ (map f (take k (drop a h)) ++ z)) (drop-drop k a h)
-    ∙ ap (λ z. take a h ++ (map f (take z (drop a h)) ++ drop (a + z) h)) q
 
 -- the list of f 0, f 1, .. f (n - 1)
 unfoldable pub tab : {A : Type 0} → (ℕ → A) → ℕ → List A

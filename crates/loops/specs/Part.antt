@@ -36,7 +36,3 @@ module _ {A : Type 0} where
   drop-slice a b l h k =
       ap (drop a) (sym (take-append-drop b l))
       ∙ drop-append-le a (take b l) (drop b l) (omega (arith, length-take-le b l k))
-
-  -- an element of a slice
-  pub getD-slice : (a b : ℕ) (l : List A) (i : ℕ) (d : A) → a + i < b → getD (slice a b l) i d ≡ getD l (a + i) d
-  getD-slice a b l i d h = getD-drop a (take b l) i d ∙ getD-take b l (a + i) d h

@@ -18,10 +18,6 @@ module _ {A : Type 0} (b : Bool) (x was : A) where
   unfolding replyIf
   reply-lent e q = ap (λ z. z .lent) e ∙ ap (λ z. cond z x was) q
 
-  pub reply-taken : {t : Bool} {y : A} → reply t y ≡ replyIf b x was → t ≡ b
-  unfolding replyIf
-  reply-taken e = ap (λ z. z .taken) e
-
   -- from the code's two ways out
   pub reply-yes : {y : A} → b ≡ true → y ≡ x → reply true y ≡ replyIf b x was
   unfolding replyIf

@@ -21,8 +21,3 @@ sum-more f t a s n e = fold-more (λ (s : Float) (j : ℕ). add f s (t j)) a s n
 pub sum-same : (f : Format) (t u : ℕ → Float) (a : Float) (n : ℕ) → ((j : ℕ) → j < n → t j ≡ u j) → sumTo f t a n ≡ sumTo f u a n
 unfolding sumTo
 sum-same f t u a n e = fold-same _ _ a n (λ s j h. ap (add f s) (e j h))
-
--- the first m terms, and then n more
-pub sum-split : (f : Format) (t : ℕ → Float) (a : Float) (m n : ℕ) → sumTo f t a (m + n) ≡ sumTo f (λ (j : ℕ). t (m + j)) (sumTo f t a m) n
-unfolding sumTo
-sum-split f t a m n = fold-split _ a m n
