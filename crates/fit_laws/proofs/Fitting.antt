@@ -25,7 +25,8 @@ use Rattle.noise_loss.specs.Loss.{Blocks, noiseBlocks, noiseSeed}
 use Rattle.deemphasis.specs.Deemphasis.{deemphasis, length-memories}
 use Rattle.loss.specs.declared.Made.{Made}
 use Rattle.loss.specs.Loss.{lowered, blocks, noiseMade, pitchMade, made, tailsByNoise, tailsByPitch, tailsAfter, historyAfter, frameSound, finish, concealed, refused, answered, loss}
-use Rattle.loss.proofs.Keep.{after-length, made-lag}
+use Rattle.loss.proofs.Fields.{made-lag}
+use Rattle.loss.proofs.Keep.{after-length}
 use Rattle.loss.proofs.Laws.{block-draws}
 use Rattle.loss.proofs.Lags.{lag-high}
 use Rattle.record.specs.Record.{headWords}
@@ -69,7 +70,7 @@ module _ (s : State) (h : List Float) (fit : Fit s h) (o : Ok s h) (c : checkCou
   lag-word : Word (made s h .lag)
   unfolding Word headWords
   lag-word =
-      subst Word (sym (made-lag s h o))
+      subst Word (sym (made-lag s h))
       (cond-either Word (searches s) (lagOf (stereo (s .settings)) h) (s .lag) (omega (arith, lag-high (stereo (s .settings)) h)) (fit .words 7))
 
   words-after : (i : ℕ) → getD (headWords ((concealed s h) .state)) i 0 < 2 ^ 32

@@ -1,58 +1,42 @@
 -- What every call is known to do.
-use mathlib.Core.Path.{_≡_, refl, ap}
-use mathlib.Core.Bool.{Bool, cond, true, false}
+use mathlib.Core.Path.{_≡_, refl, ap, _∙_}
+use mathlib.Core.Bool.{cond, false}
 use mathlib.Core.List.{List}
-use Prim.Native.Nat.{ℕ, zero, suc}
+use Prim.Native.Nat.{ℕ, suc}
 use lib.ListN.{length}
 use lib.Ieee.{Float}
 use Rattle.settings.specs.Settings.{stereo, needed}
 use Rattle.settings.proofs.Passed.{or-zero, needed-is}
-use Rattle.state.specs.State.{core, noisy, searches}
+use Rattle.state.specs.State.{searches}
 use Rattle.state.specs.Refusal.{checkPcm, refusesState, refusal}
 use Rattle.state.specs.declared.State.{State}
 use Rattle.state.proofs.Keep.{ok-start}
 use Rattle.pitch_fit.specs.Lag.{lagOf}
 use Rattle.pitch_fit.specs.Fit.{fittedTo}
 use Rattle.history.specs.History.{tails}
-use Rattle.loss.specs.Loss.{noiseMade, pitchMade, made, historyAfter, frameSound, finish, concealed, refused, answered, loss}
+use Rattle.loss.specs.Loss.{made, frameSound, finish, concealed, refused, answered, loss}
+use Rattle.loss.proofs.Fields.{made-kind, made-undrawn, made-lag, made-predictor}
 use Rattle.loss.specs.Call.{Refused, Accepted}
 
 module _ (s : State) (h : List Float) where
-  made-kind : made s h .kind ≡ cond (noisy (core s)) 2 1
-  unfolding made noiseMade pitchMade
-  made-kind = go (noisy (core s))
-    where
-      go : (b : Bool) → (cond b (noiseMade s) (pitchMade s h)) .kind ≡ cond b 2 1
-      go true = refl
-      go false = refl
-
-  made-undrawn : noisy (core s) ≡ false → (made s h .seed ≡ s .seed) × (made s h .coarse ≡ s .coarse)
-  unfolding made pitchMade
-  made-undrawn e = rw e (refl, refl)
-
   made-carried : searches s ≡ false → (made s h .lag ≡ s .lag) × (made s h .predictor ≡ s .predictor)
-  unfolding made noiseMade pitchMade
-  made-carried e = go (noisy (core s))
-    where
-      go : (b : Bool) → ((cond b (noiseMade s) (pitchMade s h)) .lag ≡ s .lag) × ((cond b (noiseMade s) (pitchMade s h)) .predictor ≡ s .predictor)
-      go true = (refl, refl)
-      go false = (
-        ap (λ z. cond z (lagOf (stereo (s .settings)) h) (s .lag)) e,
-        ap (λ z. cond z (fittedTo (stereo (s .settings)) (s .predictor) (tails h)) (s .predictor)) e,
-      )
+  made-carried e = (
+    made-lag s h ∙ ap (λ b. cond b (lagOf (stereo (s .settings)) h) (s .lag)) e,
+    made-predictor s h ∙ ap (λ b. cond b (fittedTo (stereo (s .settings)) (s .predictor) (tails h)) (s .predictor)) e,
+  )
 
   accepted : refusesState s (length h) ≡ 0 → Accepted s (concealed s h)
   unfolding concealed finish frameSound
   accepted z = record {
     number = refl;
-    kind = made-kind;
+    kind = made-kind s h;
     samples = needed-is (s .settings) (ok-start s h z .settings);
     heard = refl;
     count = refl;
     settings = refl;
     filter = refl;
     background = refl;
-    undrawn = made-undrawn;
+    undrawn = made-undrawn s h;
     carried = made-carried;
   }
 

@@ -16,13 +16,14 @@ use Rattle.state.specs.State.{core, noisy, searches}
 use Rattle.state.specs.Refusal.{lagLeast, lagMost, checkLag}
 use Rattle.state.specs.declared.State.{State}
 use Rattle.settings.proofs.Passed.{frame-high}
-use Rattle.state.proofs.Keep.{Ok, lag-range, range-lag, noise-searches}
+use Rattle.state.proofs.Keep.{Ok, lag-range, range-lag}
 use Rattle.pitch_fit.specs.Lag.{lagOf}
 use Rattle.pitch_loss.specs.PitchLoss.{pitchTails}
 use Rattle.pitch_loss.proofs.Tails.{pitches-sized}
 use Rattle.noise_loss.specs.Loss.{noiseTails}
 use Rattle.loss.specs.Loss.{blocks, noiseMade, pitchMade, made, tailsByNoise, tailsByPitch, tailsAfter, historyAfter, finish, concealed}
 use Rattle.loss.specs.declared.Made.{Made}
+use Rattle.loss.proofs.Fields.{made-lag}
 use Rattle.loss.proofs.Lags.{lag-low, lag-high}
 use Rattle.loss.proofs.Laws.{noises-sized}
 
@@ -44,20 +45,11 @@ module _ (s : State) (h : List Float) (o : Ok s h) where
   unfolding historyAfter
   after-length = with-length h (tailsAfter s (made s h) (tails h)) (o .history) (after-sized (made s h))
 
-  -- either path's lag: searched where a pitch loss is the first, else carried
-  pub made-lag : made s h .lag ≡ cond (searches s) (lagOf (stereo (s .settings)) h) (s .lag)
-  unfolding made noiseMade pitchMade
-  made-lag = go (noisy (core s)) refl
-    where
-      go : (b : Bool) → noisy (core s) ≡ b → (cond b (noiseMade s) (pitchMade s h)) .lag ≡ cond (searches s) (lagOf (stereo (s .settings)) h) (s .lag)
-      go true e = rw (noise-searches s e)
-      go false e = refl
-
   lag-after : checkLag (s .settings .start) (s .«loss_count» + 1) (made s h .lag) ≡ 0
   unfolding searches
   lag-after =
       range-lag (s .settings .start) (s .«loss_count» + 1) (made s h .lag)
-      (λ z l m. go z m (eqb (s .«loss_count») 0) (eqb (s .settings .start) 0) refl refl made-lag)
+      (λ z l m. go z m (eqb (s .«loss_count») 0) (eqb (s .settings .start) 0) refl refl (made-lag s h))
     where
       go : s .settings .start ≡ 0 → s .«loss_count» + 1 ≤ 4 → (a b : Bool) → eqb (s .«loss_count») 0 ≡ a → eqb (s .settings .start) 0 ≡ b
           → made s h .lag ≡ cond (a && b) (lagOf (stereo (s .settings)) h) (s .lag) → (lagLeast ≤ made s h .lag) × (made s h .lag ≤ lagMost)

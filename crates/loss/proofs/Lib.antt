@@ -1,3 +1,4 @@
+pub mod Fields
 pub mod Lags
 pub mod Laws
 pub mod Keep

@@ -18,7 +18,8 @@ use Rattle.settings.proofs.Passed.{or-zero}
 use Rattle.state.proofs.Keep.{Ok, ok-start}
 use Rattle.pitch_fit.specs.Lag.{lowPassed, lagOf}
 use Rattle.loss.specs.Loss.{made, tailsAfter, historyAfter, finish, concealed, refused, answered, loss}
-use Rattle.loss.proofs.Keep.{after-sized, made-lag}
+use Rattle.loss.proofs.Fields.{made-lag}
+use Rattle.loss.proofs.Keep.{after-sized}
 use Rattle.runs.specs.Kept.{EachUsed}
 use Rattle.runs.specs.Run.{Call, called, run, lastHistory}
 
@@ -41,7 +42,7 @@ oldest-run (c ∷ cs) s h = oldest-run cs _ _ ∙ oldest-kept s h (c .pcm)
 
 module _ (s : State) (h : List Float) (o : Ok s h) (e : searches s ≡ true) where
   searched : made s h .lag ≡ lagOf (stereo (s .settings)) h
-  searched = made-lag s h o ∙ ap (λ b. cond b (lagOf (stereo (s .settings)) h) (s .lag)) e
+  searched = made-lag s h ∙ ap (λ b. cond b (lagOf (stereo (s .settings)) h) (s .lag)) e
 
   pub silent-lag : EachUsed SignedZero s h → made s h .lag ≡ 720
   unfolding lagOf lowPassed
