@@ -1,8 +1,8 @@
 // Ops 201 to 208: sums over a signal, the predictor, the two filters.
 use crate::streams;
 use plc::autocorr;
-use plc_filter::fir;
-use plc_filter::iir;
+use plc_fir::celt_fir_inplace;
+use plc_iir::celt_iir_inplace;
 use plc_lpc::celt_lpc;
 
 fn answer_autocorr() -> bool {
@@ -55,7 +55,7 @@ fn answer_fir(num: &mut [f32], mem: &mut [f32]) -> bool {
     if !streams::read_floats(mem) {
         return false;
     }
-    if !fir::celt_fir_inplace(&mut x, num, mem) {
+    if !celt_fir_inplace(&mut x, num, mem) {
         return false;
     }
     streams::write_floats(&x)
@@ -82,7 +82,7 @@ fn answer_fir_1() -> bool {
 // Filters the first n samples; the rest stays.
 fn filter_front(x: &mut [f32], n: usize, den: &[f32; 24], mem: &[f32; 24]) -> bool {
     let end = streams::at_most(n, x.len());
-    iir::celt_iir_inplace(&mut x[..end], den, mem)
+    celt_iir_inplace(&mut x[..end], den, mem)
 }
 
 fn answer_iir() -> bool {

@@ -3,9 +3,9 @@ use crate::streams;
 use pitch_fit::find_lag;
 use plc_downsample::pitch_downsample;
 use plc_downsample::pitch_downsample_pair;
-use plc_search::best::Pitches;
-use plc_search::best::find_best_pitch;
-use plc_search::search::pitch_search;
+use plc_best::Pitches;
+use plc_best::find_best_pitch;
+use plc_search::pitch_search;
 
 fn answer_mono() -> bool {
     let mut x = [0.0f32; 2048];

@@ -16,7 +16,7 @@ use Rattle.history.specs.History.{half}
 use Rattle.loops.specs.Fold.{foldTo}
 use Rattle.loops.specs.Front.{tab-same}
 use Rattle.loops.specs.Sum.{sum-same}
-use Rattle.plc_filter.specs.Fir.{celtFir, celtFirFrom, firTakes}
+use Rattle.plc_fir.specs.Fir.{celtFir, celtFirFrom, firTakes}
 use Rattle.excitation.specs.Decay.{longestPeriod, decayPeriod, periodEnergy, decayOf, pitchDecay}
 use Rattle.excitation.specs.Copy.{stepped, positionAt, decayAt, periodicCopy, copiedEnergy}
 use Rattle.excitation.specs.Cycle.{Cycle, cycle, repeatedCycle, pitchCycle}

@@ -7,7 +7,7 @@ use lib.ListN.{length}
 use lib.Dec.{eqb, leb}
 use lib.Ieee.{Float}
 use Rattle.history.specs.History.{half}
-use Rattle.plc_filter.specs.Fir.{celtFir}
+use Rattle.plc_fir.specs.Fir.{celtFir}
 use Rattle.excitation.specs.Decay.{pitchDecay}
 use Rattle.excitation.specs.Copy.{periodicCopy, copiedEnergy, length-periodicCopy}
 

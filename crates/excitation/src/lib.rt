@@ -5,7 +5,7 @@ ghost use lib.ListN.{length};
 ghost use Rattle.loops.specs.Reply.{reply, replyIf};
 ghost use Rattle.buffers.specs.Buffers.{zero32};
 ghost use Rattle.history.specs.History.{half};
-ghost use Rattle.plc_filter.specs.Fir.{celtFirFrom};
+ghost use Rattle.plc_fir.specs.Fir.{celtFirFrom};
 ghost use Rattle.excitation.specs.Cycle.{cycle, pitchCycle, cycleTakes};
 use history::HALF;
 
@@ -25,7 +25,7 @@ fn whitened(new: &[f32], from: usize, lpc: &[f32; 24], mem: &[f32; 24]) -> [f32;
 {
     let mut exc = [0.0f32; HALF];
     buffers::copy(&mut exc, new);
-    plc_filter::fir::celt_fir_from(&mut exc, from, lpc, mem);
+    plc_fir::celt_fir_from(&mut exc, from, lpc, mem);
     exc
 }
 

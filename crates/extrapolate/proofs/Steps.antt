@@ -13,8 +13,9 @@ use Rattle.loops.specs.Pick.{pick-true, pick-false}
 use Rattle.loops.specs.Reply.{Reply, reply, replyIf, reply-lent}
 use Rattle.buffers.specs.Buffers.{zero32, times, energy}
 use Rattle.history.specs.History.{half}
-use Rattle.plc_filter.specs.Fir.{celtFir}
-use Rattle.plc_filter.specs.Iir.{celtIir, Channels, channels, iirTakes, iirPairTakes}
+use Rattle.plc_fir.specs.Fir.{celtFir}
+use Rattle.plc_iir.specs.Iir.{celtIir, iirTakes}
+use Rattle.plc_iir_pair.specs.Pair.{Channels, channels, iirPairTakes}
 use Rattle.excitation.specs.Copy.{copiedEnergy}
 use Rattle.excitation.specs.Cycle.{Cycle, cycle, repeatedCycle, pitchCycle, cycleTakes}
 use Rattle.extrapolate.specs.Guard.{muted, backScale, guardedAt, guarded}

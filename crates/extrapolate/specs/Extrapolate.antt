@@ -9,8 +9,8 @@ use lib.Ieee.{Float, nan, binary32, ofBits}
 use Rattle.loops.specs.Front.{tab, length-tab}
 use Rattle.buffers.specs.Buffers.{one32, times}
 use Rattle.history.specs.History.{half}
-use Rattle.plc_filter.specs.Fir.{celtFir}
-use Rattle.plc_filter.specs.Iir.{celtIir, length-celtIir}
+use Rattle.plc_fir.specs.Fir.{celtFir}
+use Rattle.plc_iir.specs.Iir.{celtIir, length-celtIir}
 use Rattle.excitation.specs.Copy.{copiedEnergy}
 use Rattle.excitation.specs.Cycle.{repeatedCycle, length-repeatedCycle, cycleTakes}
 use Rattle.extrapolate.specs.Guard.{guarded, length-guarded}

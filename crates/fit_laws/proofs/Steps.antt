@@ -19,8 +19,8 @@ use Rattle.celt_window.specs.Window.{window}
 use Rattle.post_filter.specs.declared.Filter.{Filter}
 use Rattle.post_filter.specs.Comb.{combAt, combFilterTo, tapGain, preFiltered}
 use Rattle.plc_lpc.specs.Lpc.{Lpc, crossed, reflection, lpcWith, lpcTurn, lpcTo, celtLpc}
-use Rattle.plc_filter.specs.Past.{past}
-use Rattle.plc_filter.specs.Iir.{iirSum, iirAt, iirTo, celtIir}
+use Rattle.plc_pad.specs.Past.{past}
+use Rattle.plc_iir.specs.Iir.{iirSum, iirAt, iirTo, celtIir}
 use Rattle.excitation.specs.Cycle.{repeatedCycle}
 use Rattle.extrapolate.specs.Guard.{muted, backScale, guardedAt, guarded}
 use Rattle.extrapolate.specs.Extrapolate.{order, recent, excitation, fade, fadedCycle, extrapolated}

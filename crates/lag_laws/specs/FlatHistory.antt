@@ -17,8 +17,8 @@ use Rattle.plc.specs.Const.{floor32}
 use Rattle.plc.specs.Autocorr.{lagTerm, lagTo, lagSum, celtAutocorr}
 use Rattle.plc.specs.LagWindow.{lagFactor, lagWindowed, lagValue, lagWindow}
 use Rattle.plc_lpc.specs.Lpc.{lpcTo, celtLpc, length-celtLpc}
-use Rattle.plc_filter.specs.Past.{past}
-use Rattle.plc_filter.specs.Fir.{firAt, celtFir, length-celtFir}
+use Rattle.plc_pad.specs.Past.{past}
+use Rattle.plc_fir.specs.Fir.{firAt, celtFir, length-celtFir}
 use Rattle.plc_downsample.specs.Downsample.{half32, tilt, smoothedAt, smoothed, smoothedPair, dampingTo, damped}
 use Rattle.plc_downsample.specs.Downsample.{whitener, whitenLp, pitchDownsample, pitchDownsamplePair}
 use Rattle.plc_search.specs.Offset.{fold-holds}

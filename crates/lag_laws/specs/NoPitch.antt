@@ -14,9 +14,10 @@ use Rattle.loops.specs.Pick.{pick-false}
 use Rattle.loops.specs.Sum.{sumTo}
 use Rattle.buffers.specs.Buffers.{zero32}
 use Rattle.float_bits.specs.Extremes.{maxOf}
-use Rattle.plc_search.specs.Best.{minusOne, considered, sweepTurn, sweepTo, bestStart, findBestPitch}
+use Rattle.plc_best.specs.Best.{minusOne, considered, sweepTurn, sweepTo, bestStart, findBestPitch}
 use Rattle.plc_search.specs.Offset.{fold-holds}
-use Rattle.plc_search.specs.Search.{everySecond, crossSum, correlation, near, fineAt, coarse, fine, coarseBest, fineBest, refined, pitchSearch}
+use Rattle.plc_correlate.specs.Correlation.{crossSum, correlation}
+use Rattle.plc_search.specs.Search.{everySecond, near, fineAt, coarse, fine, coarseBest, fineBest, refined, pitchSearch}
 
 -- where no correlation is above 0 the pair stays 0 and 1
 pub none-positive : (xcorr y : List Float) (len n : ℕ) → ((i : ℕ) → i < n → lt zero32 (getD xcorr i nan) ≡ false) → findBestPitch xcorr y len n ≡ bestStart

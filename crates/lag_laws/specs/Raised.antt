@@ -6,8 +6,8 @@ use Prim.Native.Nat.{ℕ, _+_}
 use lib.Ieee.{Float, binary32, add, sub, lt, neg, isNan, ofBits}
 use Rattle.buffers.specs.Buffers.{one32, squareAt}
 use Rattle.float_bits.specs.Extremes.{maxOf}
-use Rattle.plc_search.specs.Best.{minusOne, nextEnergy}
-use Rattle.plc_search.specs.Search.{crossSum, correlation}
+use Rattle.plc_best.specs.Best.{minusOne, nextEnergy}
+use Rattle.plc_correlate.specs.Correlation.{crossSum, correlation}
 
 -- y is a number that is not below itself, as every number but NaN is
 module _ (x y : Float) (n : isNan y ≡ false) (k : lt y y ≡ false) where

@@ -14,7 +14,7 @@ use history::SAMPLES;
 use history::WHOLE;
 use plc_downsample::pitch_downsample;
 use plc_downsample::pitch_downsample_pair;
-use plc_search::search::pitch_search;
+use plc_search::pitch_search;
 
 pub mod fit;
 

@@ -16,7 +16,7 @@ use Rattle.history.specs.History.{half, samples, overlap, channel, whole, Tail,
 use Rattle.history.specs.History as History
 use Rattle.history.proofs.Parts.{TailSized, Sized, slice-take, tails-sized, lent-first, lent-second, tailOf-list, with-length, tails-with, put-first, put-both}
 use Rattle.celt_window.specs.Window.{window}
-use Rattle.plc_filter.specs.Iir.{Channels, channels}
+use Rattle.plc_iir_pair.specs.Pair.{Channels, channels}
 use Rattle.post_filter.specs.declared.Filter.{Filter}
 use Rattle.post_filter.specs.Limits.{filterFits}
 use Rattle.post_filter.specs.Comb.{preFiltered, length-preFiltered, preFilteredEnd, prefilterTakes}

@@ -14,7 +14,7 @@ use Rattle.buffers.specs.Buffers.{zero32}
 use Rattle.plc.specs.Autocorr.{celtAutocorr, length-celtAutocorr}
 use Rattle.plc.specs.LagWindow.{lagWindow, length-lagWindow}
 use Rattle.plc_lpc.specs.Lpc.{celtLpc, length-celtLpc}
-use Rattle.plc_filter.specs.Fir.{celtFir, firTakes, length-celtFir}
+use Rattle.plc_fir.specs.Fir.{celtFir, firTakes, length-celtFir}
 use Rattle.plc_downsample.specs.Downsample.{damped, whitener, whitenLp, tilt, downsampleTakes, downsamplePairTakes}
 
 pub whitening-done : (lp ac ac' l0 l num : List Float) (p q : Bool) → ac ≡ celtAutocorr lp 5 → reply p ac' ≡ replyIf (leb (length ac) 65536) (lagWindow ac) ac

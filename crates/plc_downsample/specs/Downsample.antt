@@ -10,7 +10,7 @@ use Rattle.loops.specs.Fold.{foldTo}
 use Rattle.loops.specs.Front.{tab, length-tab}
 use Rattle.plc.specs.Autocorr.{celtAutocorr}
 use Rattle.plc_lpc.specs.Lpc.{celtLpc}
-use Rattle.plc_filter.specs.Fir.{celtFir, length-celtFir}
+use Rattle.plc_fir.specs.Fir.{celtFir, length-celtFir}
 use Rattle.buffers.specs.Buffers.{zero32, one32}
 use Rattle.plc.specs.LagWindow.{lagWindow}
 

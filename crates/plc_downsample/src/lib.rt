@@ -88,10 +88,10 @@ fn whiten(x_lp: &mut [f32])
     buffers::copy(&mut lp, x_lp);
     let num = whitening(&lp);
     let mem = [0.0f32; 4];
-    plc_filter::fir::celt_fir_inplace(x_lp, &num, &mem);
+    plc_fir::celt_fir_inplace(x_lp, &num, &mem);
     let tilt = [TILT; 1];
     let mem1 = [0.0f32; 1];
-    plc_filter::fir::celt_fir_inplace(x_lp, &tilt, &mem1);
+    plc_fir::celt_fir_inplace(x_lp, &tilt, &mem1);
 }
 
 // Refused, with nothing changed, unless x has 2,048 samples and x_lp 1,024.

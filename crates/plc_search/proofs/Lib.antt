@@ -1,5 +1,3 @@
 -- laws that several proofs cite
-mod Turn
-mod Rows
 mod Near
 mod Steps

@@ -3,23 +3,20 @@ use mathlib.Core.Path.{_≡_, refl, ap, _∙_, sym}
 use mathlib.Core.Bool.{Bool, true, false, cond, _||_}
 use mathlib.Core.List.{List}
 use Prim.Native.Nat.{ℕ, _+_, _*_, _-_, _≤_, _<_}
-use native.Mathlib.Nat.{add-assoc}
 use native.Mathlib.Omega.{arith}
 use lib.Dec.{leb}
-use lib.Ieee.{Float, nan, binary32, mul}
-use lib.ListN.{length, getD, take, drop}
-use lib.Seq.{getD-drop}
+use lib.Ieee.{Float, nan}
+use lib.ListN.{length, getD, take, drop, length-drop}
 use borrow.Author.Tests.{le-leb, lt-leb, leb-true, lt-ltb}
 use Rattle.loops.specs.Front.{tab, tab-same, getD-tab}
 use Rattle.loops.specs.Logic.{and-true, and-second}
 use Rattle.loops.specs.Pick.{pick-true, pick-false}
-use Rattle.loops.specs.Sum.{sum-same}
+use Rattle.loops.specs.Reply.{reply, replyIf}
 use Rattle.buffers.specs.Buffers.{zero32}
-use Rattle.float_bits.specs.Extremes.{maxOf}
-use Rattle.plc_search.specs.Best.{minusOne}
-use Rattle.plc_search.specs.Search.{crossSum, correlation, near, fineAt, interpolated, refined}
+use Rattle.plc_search.specs.Search.{near, fineAt, interpolated, refined}
+use Rattle.plc_correlate.specs.Correlation.{correlation, correlateTakes}
 use Rattle.plc_search.specs.Rows.{nearRow, nearOr}
-use Rattle.plc_search.proofs.Rows.{to-end}
+use Rattle.plc_correlate.proofs.Rows.{to-end, correlated, from}
 
 -- ---- which places are near
 module _ (b i : ℕ) where
@@ -58,23 +55,19 @@ module _ (row : List Float) (b i : ℕ) (v : Float) where
   or-near k e h l = ap (λ z. getD row (i - z) nan) e ∙ sym (pick-true _ _ _ (between b i h l))
 
 -- ---- the row around twice b
--- samples from `lo` on, counted from there
-from : (x y : List Float) (lo k n : ℕ) → correlation x (drop lo y) n k ≡ correlation x y n (lo + k)
-unfolding correlation crossSum
-from x y lo k n =
-    ap (λ z. maxOf z minusOne)
-    (sum-same binary32 (λ (j : ℕ). mul binary32 (getD x j nan) (getD (drop lo y) (k + j) nan)) (λ (j : ℕ). mul binary32 (getD x j nan) (getD y (lo + k + j) nan)) zero32 n
-    (λ j h. ap (λ z. mul binary32 (getD x j nan) z) (getD-drop lo y (k + j) nan ∙ ap (λ z. getD y z nan) (sym (add-assoc lo k j)))))
-
-pub near-row : (y r : List Float) (b lo n : ℕ) → lo ≡ 2 * b - 2 → length (take (length y - 360) (drop 360 y)) ≡ 664 → n ≡ 5
-    → r ≡ tab (correlation (take (length y - 360) (drop 360 y)) (take (length y - lo) (drop lo y)) (length (take (length y - 360) (drop 360 y)))) n
+pub near-row : {t : Bool} {r : List Float} (y w : List Float) (b lo : ℕ) → lo ≡ 2 * b - 2 → length y ≡ 1024 → b ≤ 154 → length w ≡ 5
+    → reply t r
+    ≡ replyIf (correlateTakes (length (take (length y - 360) (drop 360 y))) (length (take (length y - lo) (drop lo y))) (length w))
+    (tab (correlation (take (length y - 360) (drop 360 y)) (take (length y - lo) (drop lo y)) (length (take (length y - 360) (drop 360 y)))) (length w)) w
     → r ≡ nearRow y b
 unfolding nearRow
-near-row y r b lo n e l q w =
-    w
-    ∙ ap (λ z. tab (correlation (take (length y - 360) (drop 360 y)) (take (length y - lo) (drop lo y)) z) n) l
-    ∙ ap (λ z. tab (correlation z (take (length y - lo) (drop lo y)) 664) n) (to-end 360 y)
-    ∙ ap (λ z. tab (correlation (drop 360 y) z 664) n) (to-end lo y)
+near-row y w b lo e h k q v =
+    let l : length (take (length y - 360) (drop 360 y)) ≡ 664 = ap length (to-end 360 y) ∙ omega (arith, length-drop 360 y) in
+    let m : length (take (length y - lo) (drop lo y)) ≡ 1024 - lo = ap length (to-end lo y) ∙ omega (arith, length-drop lo y) in
+    correlated (take (length y - 360) (drop 360 y)) (take (length y - lo) (drop lo y)) w v (omega arith)
+    ∙ ap (λ z. tab (correlation (take (length y - 360) (drop 360 y)) (take (length y - lo) (drop lo y)) z) (length w)) l
+    ∙ ap (λ z. tab (correlation z (take (length y - lo) (drop lo y)) 664) (length w)) (to-end 360 y)
+    ∙ ap (λ z. tab (correlation (drop 360 y) z 664) (length w)) (to-end lo y)
     ∙ ap (tab (correlation (drop 360 y) (drop lo y) 664)) q
     ∙ tab-same _ _ 5 (λ k h. from (drop 360 y) y lo k 664 ∙ ap (λ z. correlation (drop 360 y) y 664 (z + k)) e)
 

@@ -1,5 +1,4 @@
--- What the lag search computes: the two-best tracker, and the coarse and the finer sweep that use it.
-pub mod Best
+-- What the lag search computes: the coarse and the finer sweep.
 pub mod Search
 pub mod Rows
 pub mod Offset

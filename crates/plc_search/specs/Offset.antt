@@ -11,8 +11,8 @@ use borrow.Author.Tests.{ltb-true}
 use Rattle.loops.specs.Fold.{foldTo}
 use Rattle.loops.specs.Logic.{cond-either}
 use Rattle.buffers.specs.Buffers.{zero32}
-use Rattle.plc_search.specs.declared.best.Best.{Best}
-use Rattle.plc_search.specs.Best.{ranked, considered, sweepTurn, sweepTo, findBestPitch}
+use Rattle.plc_best.specs.declared.Best.{Best}
+use Rattle.plc_best.specs.Best.{ranked, considered, sweepTurn, sweepTo, findBestPitch}
 use Rattle.plc_search.specs.Search.{fine, coarseBest, fineBest, seven-tenths, interpolated, refined, pitchSearch}
 
 -- what holds at the start and is kept by each turn holds at the end

@@ -6,23 +6,14 @@ use lib.Dec.{leb, ltb}
 use lib.ListN.{getD, drop}
 use lib.Ieee.{Float, nan, binary32, sub, mul, lt, ofBits}
 use Rattle.loops.specs.Front.{tab}
-use Rattle.loops.specs.Sum.{sumTo}
 use Rattle.buffers.specs.Buffers.{zero32}
-use Rattle.float_bits.specs.Extremes.{maxOf}
-use Rattle.plc_search.specs.Best.{minusOne, findBestPitch}
-use Rattle.plc_search.specs.declared.best.Best.{Best}
+use Rattle.plc_best.specs.declared.Best.{Best}
+use Rattle.plc_best.specs.Best.{findBestPitch}
+use Rattle.plc_correlate.specs.Correlation.{correlation}
 
 -- the first n of every second sample
 unfoldable pub everySecond : List Float → ℕ → List Float
 everySecond x n = tab (λ (j : ℕ). getD x (2 * j) nan) n
-
--- the first n samples of x against y from i on, in order from +0
-unfoldable pub crossSum : List Float → List Float → ℕ → ℕ → Float
-crossSum x y i n = sumTo binary32 (λ (j : ℕ). mul binary32 (getD x j nan) (getD y (i + j) nan)) zero32 n
-
--- the same raised to at least -1; NaN becomes -1
-unfoldable pub correlation : List Float → List Float → ℕ → ℕ → Float
-correlation x y n i = maxOf (crossSum x y i n) minusOne
 
 -- i is at most 2 away from twice b
 unfoldable pub near : ℕ → ℕ → Bool

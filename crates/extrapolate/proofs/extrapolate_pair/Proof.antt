@@ -4,7 +4,7 @@ use lib.ListN.{length}
 use borrow.Author.Needs.{needs}
 use borrow.Author.Tests.{not-true, not-false}
 use Rattle.loops.specs.Reply.{reply-yes, reply-no}
-use Rattle.plc_filter.specs.Iir.{channels}
+use Rattle.plc_iir_pair.specs.Pair.{channels}
 use Rattle.extrapolate.specs.Extrapolate.{extrapolated, extrapolatePairTakes}
 use Rattle.extrapolate.proofs.Steps.{Fits, pair-fits, pair-is}
 use Rattle.extrapolate.proofs.extrapolate_pair.Statement.{statement}

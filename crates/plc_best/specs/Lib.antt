@@ -1,0 +1,2 @@
+-- What the two-best tracker of plc.rs computes.
+pub mod Best

@@ -1,0 +1,2 @@
+-- What the correlations of the lag search are.
+pub mod Correlation

@@ -1,4 +1,0 @@
--- laws that several proofs cite
-mod Firs
-mod Iirs
-mod Taps

@@ -1,0 +1,3 @@
+-- laws that several proofs cite
+mod Firs
+mod Taps

@@ -1,0 +1,2 @@
+-- What the all-zero filter of plc.rs computes.
+pub mod Fir

@@ -1,0 +1,2 @@
+-- laws that both versions cite
+pub mod Iirs

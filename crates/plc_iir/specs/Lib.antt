@@ -1,0 +1,2 @@
+-- What the all-pole filter of plc.rs computes.
+pub mod Iir

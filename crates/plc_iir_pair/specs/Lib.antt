@@ -1,0 +1,2 @@
+-- Two channels of the all-pole filter.
+pub mod Pair

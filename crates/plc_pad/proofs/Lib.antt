@@ -1,0 +1,2 @@
+-- laws that the filters cite
+pub mod Taps
