@@ -11,7 +11,7 @@ use lib.Ieee.{Float, nan, binary64, ofBits, mul, neg}
 use Rattle.loops.specs.Sum.{sumTo}
 use Rattle.loops.specs.Front.{tab, length-tab}
 use Rattle.loops.specs.Reply.{Reply, reply, replyIf, reply-lent}
-use Rattle.float_bits.specs.Formats.{narrow}
+use Rattle.float_narrow.specs.Narrow.{narrow}
 use Rattle.cosine_table.specs.Cosines.{cosines}
 
 -- the cosine of j parts of a circle of 7,680, for j up to 7,680, folded into the first quadrant

@@ -1,7 +1,7 @@
 // The inverse transform as a direct sum, its cosines from a table.
 use cosine_table::cosines;
 use float_bits::formats::f32_to_f64;
-use float_bits::formats::f64_to_f32;
+use float_narrow::f64_to_f32;
 ghost use mathlib.Core.Path.{_≡_};
 ghost use mathlib.Core.Bool.{true};
 ghost use mathlib.Core.List.{_++_};
