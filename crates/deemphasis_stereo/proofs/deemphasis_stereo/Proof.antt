@@ -2,9 +2,9 @@ use mathlib.Core.Path.{_≡_, _∙_, sym}
 use Prim.Native.Nat.{_-_, _/_}
 use lib.ListN.{length}
 use borrow.Author.Needs.{needs}
 use Rattle.deemphasis.proofs.Laws.{room, stereo-done, stereo-short, stereo-uneven}
-use Rattle.deemphasis.proofs.deemphasis_stereo.Statement.{statement}
-use Rattle.deemphasis.proofs.deemphasis_stereo.Tie as tie
+use Rattle.deemphasis_stereo.proofs.deemphasis_stereo.Statement.{statement}
+use Rattle.deemphasis_stereo.proofs.deemphasis_stereo.Tie as tie
 
 two : (c : tie.Start) → length (c .args .t3) ≡ 2
 two c = search needs

@@ -6,10 +6,10 @@ use lib.ListN.{length, set, length-set}
 use borrow.Author.Needs.{needs}
 use lib.Ieee.{Float, nan}
 use Rattle.loops.specs.Front.{front, tab, tab-none, tab-more}
 use Rattle.deemphasis.specs.Deemphasis.{memoryTo, valueAt}
 use Rattle.deemphasis.proofs.Laws.{next-in, next-is, all-samples, memory-none, memory-more, value-first, value-second}
-use Rattle.deemphasis.proofs.filter_stereo.Statement.{statement}
-use Rattle.deemphasis.proofs.filter_stereo.Tie as tie
+use Rattle.deemphasis_stereo.proofs.filter_stereo.Statement.{statement}
+use Rattle.deemphasis_stereo.proofs.filter_stereo.Tie as tie
 
 abbrev Inv-loop2 : tie.InvT-loop2
 Inv-loop2 v w left right downsample pcm count first₀ second₀ j₀ q next first second j =

@@ -6,10 +6,10 @@ use lib.ListN.{length, length-set}
 use borrow.Author.Needs.{needs}
 use lib.Ieee.{Float, nan}
 use Rattle.loops.specs.Front.{front, tab, tab-none, tab-more}
 use Rattle.deemphasis.specs.Deemphasis.{memoryTo, valueAt}
 use Rattle.deemphasis.proofs.Laws.{next-in, next-is, all-samples, memory-none, memory-more, value-mono}
-use Rattle.deemphasis.proofs.filter_mono.Statement.{statement}
-use Rattle.deemphasis.proofs.filter_mono.Tie as tie
+use Rattle.deemphasis_mono.proofs.filter_mono.Statement.{statement}
+use Rattle.deemphasis_mono.proofs.filter_mono.Tie as tie
 
 abbrev Inv-loop2 : tie.InvT-loop2
 Inv-loop2 v memory downsample pcm count mem₀ j₀ q next mem j = (j ≤ next) × (next ≤ length v) × (mem ≡ memoryTo v memory j)

@@ -2,9 +2,9 @@ use mathlib.Core.Path.{_≡_, _∙_, sym}
 use Prim.Native.Nat.{_-_}
 use lib.ListN.{length}
 use borrow.Author.Needs.{needs}
 use Rattle.deemphasis.proofs.Laws.{room, mono-done, mono-refused}
-use Rattle.deemphasis.proofs.deemphasis_mono.Statement.{statement}
-use Rattle.deemphasis.proofs.deemphasis_mono.Tie as tie
+use Rattle.deemphasis_mono.proofs.deemphasis_mono.Statement.{statement}
+use Rattle.deemphasis_mono.proofs.deemphasis_mono.Tie as tie
 
 two : (c : tie.Start) → length (c .args .t2) ≡ 2
 two c = search needs
