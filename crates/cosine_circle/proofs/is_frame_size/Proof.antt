@@ -1,11 +1,11 @@
--- `imdct::is_frame_size` meets its contract: by its four numbers, and none of them.
+-- `cosine_circle::is_frame_size` meets its contract: by its four numbers, and none of them.
 use mathlib.Core.Path.{ap, sym}
 use mathlib.Core.Logic.{⊎-elim}
 use borrow.Author.Tests.{ne-eqb}
 use mathlib.Core.Logic.{inl, inr}
-use Rattle.mdct.specs.Imdct.{isFrameSize}
-use Rattle.mdct.proofs.imdct.is_frame_size.Statement.{statement}
-use Rattle.mdct.proofs.imdct.is_frame_size.Tie as tie
+use Rattle.cosine_circle.specs.Circle.{isFrameSize}
+use Rattle.cosine_circle.proofs.is_frame_size.Statement.{statement}
+use Rattle.cosine_circle.proofs.is_frame_size.Tie as tie
 
 returns : tie.Need-returns
 unfolding isFrameSize

@@ -1,12 +1,12 @@
--- `imdct::cos_at` meets its contract: one quadrant for each arm.
+-- `cosine_circle::cos_at` meets its contract: one quadrant for each arm.
 use mathlib.Core.Path.{ap, _∙_, sym}
 use Prim.Native.Nat.{_-_}
 use lib.ListN.{getD}
 use borrow.Author.Needs.{needs}
 use lib.Ieee.{nan, neg}
-use Rattle.mdct.proofs.Quadrants.{first, second, third, fourth}
-use Rattle.mdct.proofs.imdct.cos_at.Statement.{statement}
-use Rattle.mdct.proofs.imdct.cos_at.Tie as tie
+use Rattle.cosine_circle.proofs.Quadrants.{first, second, third, fourth}
+use Rattle.cosine_circle.proofs.cos_at.Statement.{statement}
+use Rattle.cosine_circle.proofs.cos_at.Tie as tie
 
 mul-result : tie.Need-mul-result
 mul-result c = search needs

@@ -7,7 +7,7 @@ use native.Mathlib.Nat.{mul-assoc, mul-comm, mul-le-mul-left, div-eq-of-eq-mul-r
 use lib.Dec.{T, eqb}
 use lib.Pow.{pow-pos, pow-mono, pow-add}
 use borrow.Author.Tests.{eqb-true}
-use Rattle.mdct.specs.Imdct.{isFrameSize}
+use Rattle.cosine_circle.specs.Circle.{isFrameSize}
 
 pub record Size (n : ℕ) : Type 0 where
   pub lm : ℕ

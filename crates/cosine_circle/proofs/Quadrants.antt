@@ -6,7 +6,7 @@ use lib.ListN.{getD}
 use lib.Ieee.{nan, neg}
 use borrow.Author.Tests.{le-leb, lt-leb}
 use Rattle.cosine_table.specs.Cosines.{cosines}
-use Rattle.mdct.specs.Imdct.{cosAt}
+use Rattle.cosine_circle.specs.Circle.{cosAt}
 
 pub first : (j : ℕ) → j ≤ 1920 → cosAt j ≡ getD cosines j nan
 unfolding cosAt
