@@ -9,7 +9,7 @@ use Rattle.loops.specs.Front.{front, tab, tab-more}
 use Rattle.loops.specs.Sum.{sumTo, sum-more}
 use Rattle.buffers.specs.Buffers.{times}
 use Rattle.float_bits.specs.Words.{noiseValue, wrappingMul}
-use Rattle.float_bits.specs.Formats.{narrow}
+use Rattle.float_narrow.specs.Narrow.{narrow}
 use Rattle.float_root.specs.Root.{sqrtOf}
 use Rattle.band_quant.specs.Draw.{draw, draws, draws-more}
 use Rattle.band_quant.specs.Noise.{noiseAt}

@@ -6,7 +6,7 @@ use lib.ListN.{length, getD, length-map}
 use lib.Ieee.{Float, nan, binary32, binary64, mul, div, ofBits}
 use Rattle.loops.specs.Sum.{sumTo}
 use Rattle.buffers.specs.Buffers.{times}
-use Rattle.float_bits.specs.Formats.{narrow}
+use Rattle.float_narrow.specs.Narrow.{narrow}
 use Rattle.float_root.specs.Root.{sqrtOf}
 
 -- the square of what stands at j, in f64

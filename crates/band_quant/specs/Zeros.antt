@@ -9,7 +9,7 @@ use lib.ListN.{length, getD}
 use lib.Ieee.{Float, nan, binary32, binary64, add, mul, div, ofBits}
 use Rattle.loops.specs.Sum.{sumTo, sum-none, sum-more}
 use Rattle.buffers.specs.Buffers.{times, one32}
-use Rattle.float_bits.specs.Formats.{narrow}
+use Rattle.float_narrow.specs.Narrow.{narrow}
 use Rattle.float_root.specs.Root.{sqrtOf, twiceRoot, rootTo}
 use Rattle.band_quant.specs.Renormalise.{square64At, floor64, energy64, factorOf, renormaliseVector}
 

@@ -55,6 +55,6 @@ pub fn renormalise_vector(x: &mut [f32], gain: f32)
     ensures { λ _. ⌜ now (x .exit) ≡ renormaliseVector (now (x .entry)) gain ⌝ }
 {
     let e = energy64(x);
-    let g = gain / float_root::sqrt_f32(float_bits::formats::f64_to_f32(e));
+    let g = gain / float_root::sqrt_f32(float_narrow::f64_to_f32(e));
     buffers::scale(x, g);
 }

@@ -31,7 +31,7 @@ fn answer_two(op: u32, x: u32, y: u32) -> bool {
     match op {
         101 => streams::write_float(extremes::min_f32(f32_from_word(x), f32_from_word(y))),
         102 => streams::write_float(extremes::max_f32(f32_from_word(x), f32_from_word(y))),
-        104 => streams::write_float(formats::f64_to_f32(double(x, y))),
+        104 => streams::write_float(float_narrow::f64_to_f32(double(x, y))),
         108 => streams::write_word(wrapping_mul_u32(x, y)),
         _ => false,
     }

@@ -1,8 +1,8 @@
 // Op 701: the de-emphasis of one frame.
 use crate::streams;
 use deemphasis::Deemphasised;
-use deemphasis::deemphasis_mono;
-use deemphasis::deemphasis_stereo;
+use deemphasis_mono::deemphasis_mono;
+use deemphasis_stereo::deemphasis_stereo;
 use settings::sizes::frame_size;
 
 // The first n samples of v.

@@ -1,6 +1,5 @@
 // Ops 501 to 505: the band gain and the standard mode.
 use crate::streams;
-use custom_mode::gain;
 use custom_mode::rate;
 use custom_mode::rate::Factor;
 use custom_mode::standard;
@@ -14,7 +13,7 @@ fn answer_gain() -> bool {
     }
     let e = f32_from_word(energy.value);
     let m = f32_from_word(mean.value);
-    streams::write_float(gain::band_gain(e, m))
+    streams::write_float(band_gain::band_gain(e, m))
 }
 
 // 0 for none
@@ -32,7 +31,7 @@ fn answer_one(op: u32) -> bool {
     }
     match op {
         502 => write_factor(rate::resampling_factor(x.value)),
-        503 => streams::write_double(gain::power_at(x.value as u64)),
+        503 => streams::write_double(band_gain::power_at(x.value as u64)),
         504 => streams::write_float(standard::mean_energy(x.value as usize)),
         505 => streams::write_number(standard::band_edge(x.value as usize)),
         _ => false,

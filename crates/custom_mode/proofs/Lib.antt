@@ -1,5 +1,1 @@
 mod Tables
-mod Wholes
-mod Floor
-mod Limits
-mod Gains

@@ -5,7 +5,7 @@ use Prim.Native.Nat.{ℕ, _+_, _≤_, _<_}
 use lib.Dec.{leb}
 use borrow.Author.Tests.{leb-true}
 use Rattle.loops.specs.Logic.{and-true}
-use Rattle.custom_mode.specs.Below.{below, below-at}
+use Rattle.loops.specs.Below.{below, below-at}
 use Rattle.custom_mode.specs.Mode.{bands, lastEdge, edges, edge}
 
 rise : ℕ → Bool

@@ -1,5 +1,3 @@
-// The standard mode at 48 kHz, and the gain of a band.
-pub mod gain;
-mod powers;
+// The standard mode at 48 kHz, and the output rates.
 pub mod rate;
 pub mod standard;

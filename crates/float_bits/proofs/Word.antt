@@ -2,11 +2,11 @@
 use mathlib.Core.Path.{_≡_, refl, sym, ap, _∙_, subst}
 use Prim.Native.Nat.{ℕ, zero, suc, _*_, _/_, _%_, _^_, _≤_, _<_}
 use native.Mathlib.Nat.{zero-add, le-of-lt, lt-of-le-of-lt, lt-of-lt-of-le, div-lt-iff-lt-mul}
-use mathlib.Core.Bool.{Bool, true, not, false≢true}
+use mathlib.Core.Bool.{Bool, true, false, not, false≢true, true≢false}
 use lib.IntN.{ℤ, pos, negsuc, _-ℤ_}
 use lib.Signed.{mag, shrZ, mag-shr}
 use lib.Dec.{T, le→leb, lt→ltb}
-use lib.Ieee.{Float, nan, inf, fin, binary32, isNan, nanBits, ofBits, toBits, div, inFloat}
+use lib.Ieee.{Float, nan, inf, fin, binary32, isNan, nanBits, ofBits, toBits, div, inFloat, ne}
 use lib.Ieee.Bits.{nanBits-is, nanBits-above}
 use borrow.Author.Tests.{lt-ltb, le-ltb}
 use mir.Syntax.{w32}
@@ -63,3 +63,10 @@ real-word w h = subst (λ (b : Bool). T (not b)) (sym (nanBits-above binary32 w 
 pub nan-bits : (x : Float) → x ≡ nan → 0x7fc0_0000 ≡ toBits binary32 x
 unfolding toBits
 nan-bits x e = sym (ap (toBits binary32) e)
+
+-- x != x is false
+pub real : (x : Float) → ne x x ≡ false → T (not (isNan x))
+unfolding isNan ne
+real nan e = absurd (true≢false e)
+real (inf s) e = tt
+real (fin s m d) e = tt

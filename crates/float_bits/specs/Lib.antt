@@ -1,7 +1,5 @@
 -- What the float helpers compute, over the kit's account of IEEE 754.
 pub mod Extremes
-pub mod Formats
 pub mod Words
 pub mod Noise
 pub mod Steps
-pub mod Marked

@@ -18,7 +18,7 @@ use Rattle.float_root.specs.Steps.{RootBits}
 use Rattle.float_bits.proofs.Fields.{fields-val, fields-inf, ofBits-is}
 use Rattle.float_root.proofs.Roots.{ofBits-units}
 use Rattle.float_root.proofs.Sqrt.{root-value}
-use Rattle.float_bits.proofs.Decode.{units-real}
+use Rattle.float_bits.proofs.Laws.{units-real}
 
 -- ---- the values that give themselves
 pub self-nan : (x : Float) → x ≡ nan → x ≡ sqrtOf x

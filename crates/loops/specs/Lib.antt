@@ -5,5 +5,6 @@ pub mod Part
 pub mod Sum
 pub mod Pick
 pub mod Logic
+pub mod Below
 pub mod Reply
 pub mod Nan

@@ -5,7 +5,7 @@ use native.Mathlib.Omega.{arith}
 use native.Mathlib.Numerals.{add-one}
 use native.Mathlib.Nat.{mul-comm, mul-assoc, mul-add, add-mul, mul-le-mul-right, div-add-mod', mod-lt, add-mod}
 use Rattle.mdct.specs.Imdct.{angle}
-use Rattle.mdct.proofs.Sizes.{Size, even, whole, at-least, per-least}
+use Rattle.cosine_circle.proofs.Sizes.{Size, even, whole, at-least, per-least}
 
 -- input k in output t, in half steps: an odd number
 unfoldable pub halfSteps : ℕ → ℕ → ℕ → ℕ

@@ -9,12 +9,6 @@ use lib.ListN.{length, getD, set, take, drop, length-append, take-append-drop, L
 use lib.Seq.{length-take-le, take-at, drop-at, drop-drop, ext-getD}
 use Rattle.loops.specs.Front.{front, front-write, tab, tab-read, tab-all, length-tab, getD-tab}
 
--- what a list has at i that was filled up to k
-pub front-tab-at : {A : Type 0} (f : ℕ → A) (d : A) (xs b : List A) (k i : ℕ) → b ≡ front (tab f k) xs k → i < k → getD b i d ≡ f i
-unfolding front
-front-tab-at f d xs b k i e h =
-    ap (λ z. getD z i d) e ∙ List·getD-append (tab f k) (drop k xs) d i (omega (arith, length-tab f k)) ∙ getD-tab f k i d h
-
 -- a run of outputs that starts at t
 pub rest-none : {A : Type 0} (f : ℕ → A) (xs : List A) (t : ℕ) → xs ≡ front (take t xs ++ tab f 0) xs (t + 0)
 unfolding front tab

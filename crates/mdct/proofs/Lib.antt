@@ -1,6 +1,4 @@
 -- Laws that the proofs of this crate cite.
-pub mod Quadrants
-pub mod Sizes
 pub mod Angles
 pub mod Fronts
 pub mod Terms

@@ -5,9 +5,9 @@ use Prim.Native.Nat.{ℕ, _+_, _*_, _/_, _<_}
 use native.Mathlib.Omega.{arith}
 use lib.ListN.{getD}
 use lib.Ieee.{Float, nan, binary64, mul}
-use Rattle.mdct.specs.Imdct.{cosAt, imdctTerm}
-use Rattle.mdct.specs.Circle.{IsCircle}
-use Rattle.mdct.proofs.Sizes.{Size, at-least}
+use Rattle.mdct.specs.Imdct.{imdctTerm}
+use Rattle.cosine_circle.specs.Circle.{cosAt, IsCircle}
+use Rattle.cosine_circle.proofs.Sizes.{Size, at-least}
 use Rattle.mdct.proofs.Angles.{place, place-less, on-circle}
 
 pub term-is : (n : ℕ) (circle xs : List Float) (t k i : ℕ) (v : Float) → Size n → IsCircle n circle → v ≡ getD xs k nan → i ≡ place n t k

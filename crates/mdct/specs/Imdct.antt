@@ -1,25 +1,17 @@
 -- The inverse transform as a sum of cosines: 2 n outputs from n inputs, n being 120 * 2 ^ lm.
-use mathlib.Core.Path.{_≡_, refl}
+use mathlib.Core.Path.{_≡_}
 use mathlib.Core.List.{List}
-use mathlib.Core.Bool.{Bool, true, false, cond, _||_, _&&_}
-use Prim.Native.Nat.{ℕ, zero, suc, _+_, _-_, _*_, _/_, _%_, _^_, _≤_}
-use native.Mathlib.Omega.{arith}
-use lib.Dec.{eqb, leb}
+use mathlib.Core.Bool.{Bool, true, false, _&&_}
+use Prim.Native.Nat.{ℕ, _+_, _-_, _*_, _/_, _%_}
+use lib.Dec.{eqb}
 use borrow.Author.Tests.{eq-eqb, ne-eqb}
 use lib.ListN.{length, getD}
-use lib.Ieee.{Float, nan, binary64, ofBits, mul, neg}
+use lib.Ieee.{Float, nan, binary64, ofBits, mul}
 use Rattle.loops.specs.Sum.{sumTo}
 use Rattle.loops.specs.Front.{tab, length-tab}
 use Rattle.loops.specs.Reply.{Reply, reply, replyIf, reply-lent}
-use Rattle.float_bits.specs.Formats.{narrow}
-use Rattle.cosine_table.specs.Cosines.{cosines}
-
--- the cosine of j parts of a circle of 7,680, for j up to 7,680, folded into the first quadrant
-unfoldable pub cosAt : ℕ → Float
-cosAt j =
-    cond (leb j 1920) (getD cosines j nan)
-    (cond (leb j 3840) (neg (getD cosines (3840 - j) nan))
-    (cond (leb j 5760) (neg (getD cosines (j - 3840) nan)) (getD cosines (7680 - j) nan)))
+use Rattle.float_narrow.specs.Narrow.{narrow}
+use Rattle.cosine_circle.specs.Circle.{cosAt, isFrameSize}
 
 -- the angle of input k in output t, in parts of a circle of 7,680
 unfoldable pub angle : ℕ → ℕ → ℕ → ℕ
@@ -47,18 +39,6 @@ imdct n xs = tab (imdctAt n xs) (2 * n)
 pub length-imdct : (n : ℕ) (xs : List Float) → length (imdct n xs) ≡ 2 * n
 unfolding imdct
 length-imdct n xs = length-tab _ (2 * n)
-
--- whether n is a frame size: 120 * 2 ^ lm for an lm up to 3
-unfoldable pub isFrameSize : ℕ → Bool
-isFrameSize n = eqb n (120 * 2 ^ 0) || eqb n (120 * 2 ^ 1) || eqb n (120 * 2 ^ 2) || eqb n (120 * 2 ^ 3)
-
-pub size-is-frame : (lm : ℕ) → lm ≤ 3 → isFrameSize (120 * 2 ^ lm) ≡ true
-unfolding isFrameSize
-size-is-frame zero h = refl
-size-is-frame (suc zero) h = refl
-size-is-frame (suc (suc zero)) h = refl
-size-is-frame (suc (suc (suc zero))) h = refl
-size-is-frame (suc (suc (suc (suc lm)))) h = let z : ⊥ = omega arith in absurd z
 
 -- whether imdct_naive_f32 takes n inputs and room for m outputs
 unfoldable pub imdctTakes : ℕ → ℕ → Bool

@@ -1,3 +1,2 @@
 -- The inverse transform.
 pub mod Imdct
-pub mod Circle

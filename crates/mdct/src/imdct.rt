@@ -1,7 +1,8 @@
-// The inverse transform as a direct sum, its cosines from a table.
-use cosine_table::cosines;
+// The inverse transform as a direct sum, its cosines from a circle of them.
+use cosine_circle::circle;
+use cosine_circle::is_frame_size;
 use float_bits::formats::f32_to_f64;
-use float_bits::formats::f64_to_f32;
+use float_narrow::f64_to_f32;
 ghost use mathlib.Core.Path.{_≡_};
 ghost use mathlib.Core.Bool.{true};
 ghost use mathlib.Core.List.{_++_};
@@ -10,41 +11,8 @@ ghost use lib.ListN.{length, getD, take};
 ghost use lib.Ieee.{nan};
 ghost use Rattle.loops.specs.Front.{front, tab};
 ghost use Rattle.loops.specs.Reply.{reply};
-ghost use Rattle.cosine_table.specs.Cosines.{cosines};
-ghost use Rattle.mdct.specs.Circle.{IsCircle};
-ghost use Rattle.mdct.specs.Imdct.{cosAt, isFrameSize, halfOf, imdct, imdctReply, imdctSum};
-
-// The cosine of j parts of a circle of 7,680.
-fn cos_at(c: &[f64; 1921], j: usize) -> f64
-    requires { ⌜ now c ≡ cosines ⌝ }
-    requires { ⌜ j ≤ 7680 ⌝ }
-    ensures { λ r. ⌜ r ≡ cosAt j ⌝ }
-{
-    if j <= 1920 {
-        c[j]
-    } else if j <= 3840 {
-        -c[3840 - j]
-    } else if j <= 5760 {
-        -c[j - 3840]
-    } else {
-        c[7680 - j]
-    }
-}
-
-// The cosines of a circle of 4 n steps, each at half a step more than a whole one.
-fn circle(c: &[f64; 1921], n: usize) -> [f64; 3840]
-    requires { ⌜ now c ≡ cosines ⌝ }
-    requires { ⌜ isFrameSize n ≡ true ⌝ }
-    ensures { λ r. ⌜ IsCircle n r ⌝ }
-{
-    let s = 960 / n;
-    let m = 4 * n;
-    let mut r = [0.0f64; 3840];
-    for i in 0..m {
-        r[i] = cos_at(c, s * (2 * i + 1));
-    }
-    r
-}
+ghost use Rattle.cosine_circle.specs.Circle.{isFrameSize, IsCircle};
+ghost use Rattle.mdct.specs.Imdct.{halfOf, imdct, imdctReply, imdctSum};
 
 // i in a circle of w steps.
 fn wrapped(i: usize, w: usize) -> usize
@@ -114,16 +82,6 @@ fn outputs(circle: &[f64; 3840], x: &[f32], out: &mut [f32])
     }
 }
 
-// One of the four frame sizes.
-fn is_frame_size(n: usize) -> bool
-    ensures { λ r. ⌜ r ≡ isFrameSize n ⌝ }
-{
-    match n {
-        120 | 240 | 480 | 960 => true,
-        _ => false,
-    }
-}
-
 // Takes n inputs, n one of the four frame sizes, into 2 n outputs. Of any other lengths it returns false, and out stays as it was.
 pub fn imdct_naive_f32(spectrum: &[f32], out: &mut [f32]) -> bool
     ensures { λ r. ⌜ reply r (now (out .exit)) ≡ imdctReply (now (spectrum .entry)) (now (out .entry)) ⌝ }
@@ -135,8 +93,7 @@ pub fn imdct_naive_f32(spectrum: &[f32], out: &mut [f32]) -> bool
     if out.len() != 2 * n {
         return false;
     }
-    let c = cosines();
-    let cosines = circle(&c, n);
+    let cosines = circle(n);
     outputs(&cosines, spectrum, out);
     true
 }

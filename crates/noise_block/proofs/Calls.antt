@@ -14,7 +14,8 @@ use Rattle.loops.specs.Front.{tab}
 use Rattle.loops.specs.Logic.{and-true, and-first, and-second}
 use Rattle.loops.specs.Reply.{reply, replyIf, reply-yes, reply-no}
 use Rattle.buffers.specs.Buffers.{zero32}
-use Rattle.mdct.specs.Imdct.{imdct, isFrameSize, size-is-frame, imdctTakes, imdctReply, takes, reply-outputs}
+use Rattle.cosine_circle.specs.Circle.{isFrameSize, size-is-frame}
+use Rattle.mdct.specs.Imdct.{imdct, imdctTakes, imdctReply, takes, reply-outputs}
 use Rattle.noise_block.specs.Shape.{noiseShape}
 use Rattle.noise_block.specs.Spectrum.{gainTurn, bound, cleared, spectrum}
 use Rattle.noise_block.specs.Block.{windowed, Block, drawnBlock, noiseBlock}

@@ -13,7 +13,7 @@ use Rattle.loops.specs.Fold.{foldTo, foldRange}
 use Rattle.loops.specs.Part.{put, length-put}
 use Rattle.buffers.specs.Buffers.{zero32, times}
 use Rattle.custom_mode.specs.Mode.{shortBlock, bands, lastEdge, mean}
-use Rattle.custom_mode.specs.Gain.{gainOf}
+use Rattle.band_gain.specs.Gain.{gainOf}
 use Rattle.noise_block.specs.Shape.{lo, width, noiseShape, band-in, lo-in, length-noiseShape}
 
 -- the gain of band i, from a channel's 25 energies

@@ -10,7 +10,7 @@ ghost use Prim.Native.Nat.{_+_, _*_, _≤_};
 ghost use lib.ListN.{length};
 ghost use Rattle.loops.specs.Front.{tab};
 ghost use Rattle.custom_mode.specs.Mode.{shortBlock, overlap, bands, maxBands};
-ghost use Rattle.mdct.specs.Imdct.{isFrameSize};
+ghost use Rattle.cosine_circle.specs.Circle.{isFrameSize};
 ghost use Rattle.noise_block.specs.Block.{windowed, noiseBlock};
 
 // The longest frame.

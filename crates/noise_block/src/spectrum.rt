@@ -1,7 +1,7 @@
 // Gains and bound of the spectrum.
+use band_gain::band_gain;
 use buffers::fill;
 use buffers::scale;
-use custom_mode::gain::band_gain;
 use custom_mode::standard::SHORT_BLOCK;
 use custom_mode::standard::band_edge;
 use custom_mode::standard::mean_energy;

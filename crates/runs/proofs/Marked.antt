@@ -6,12 +6,12 @@ use Prim.Native.Nat.{ℕ, zero, suc}
 use native.Mathlib.Omega.{arith}
 use lib.ListN.{length}
 use lib.Ieee.{Float}
-use Rattle.float_bits.specs.Marked.{marked-rounding}
+use Rattle.float_narrow.specs.Marked.{marked-rounding}
 use Rattle.float_root.specs.Marked.{marked-roots}
 use Rattle.band_quant.specs.Draw.{draws}
 use Rattle.band_quant.specs.Marked.{drawn, heard}
 use Rattle.custom_mode.specs.Mode.{edges, edge}
-use Rattle.custom_mode.specs.Marked.{gains}
+use Rattle.band_gain.specs.Marked.{gains}
 use Rattle.post_filter.specs.Limits.{filterFits}
 use Rattle.settings.specs.Number.{orElse}
 use Rattle.settings.specs.Settings.{factor, firstBin, stereo, drawsPerLoss, checkSettings}

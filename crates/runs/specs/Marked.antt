@@ -6,11 +6,11 @@ use Prim.Native.Nat.{ℕ, _+_, _^_}
 use lib.IntN.{pos, negsuc}
 use lib.Ieee.{Float, nan, fin, binary32, ofBits, toBits, neg}
 use Rattle.float_root.specs.Root.{sqrtOf}
-use Rattle.float_bits.specs.Formats.{narrow}
+use Rattle.float_narrow.specs.Narrow.{narrow}
 use Rattle.band_quant.specs.Draw.{draws}
 use Rattle.band_quant.specs.Noise.{noiseBand}
 use Rattle.band_quant.specs.Marked.{f32Of}
-use Rattle.custom_mode.specs.Gain.{gainOf}
+use Rattle.band_gain.specs.Gain.{gainOf}
 use Rattle.history.specs.History.{whole}
 use Rattle.state.specs.State.{core, noisy}
 use Rattle.state.specs.Refusal.{refusesState}

@@ -8,7 +8,7 @@ use lib.Ieee.{Float, nan, binary32, fits, isNan, ofBits, toBits}
 use lib.Ieee.Bits.{ofBits-toBits, toBits-lt}
 use lib.Ieee.Compare.{differs-from-itself}
 use Rattle.float_root.specs.Root.{sqrtOf}
-use Rattle.float_bits.proofs.Decode.{real}
+use Rattle.float_bits.proofs.Word.{real}
 use Rattle.float_root.proofs.Classify.{self-nan, self-zero, self-minus, self-inf, real-bits, neg-bits, root-is, root-real}
 use Rattle.float_bits.proofs.Word.{zero-quotient}
 use Rattle.float_root.proofs.sqrt_f32.Statement.{statement}

@@ -3,7 +3,7 @@ use mathlib.Core.Bool.{true}
 use Prim.Native.Nat.{_-_, _*_}
 use native.Mathlib.Omega.{arith}
 use borrow.Author.Needs.{needs}
-use Rattle.mdct.specs.Imdct.{isFrameSize}
+use Rattle.cosine_circle.specs.Circle.{isFrameSize}
 use Rattle.noise_block.proofs.Calls.{fits, frame-fits, block-taken, block-unfit, block-bands, block-size}
 use Rattle.noise_block.proofs.noise_block.Statement.{statement}
 use Rattle.noise_block.proofs.noise_block.Tie as tie

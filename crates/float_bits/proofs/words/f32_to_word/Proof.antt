@@ -1,8 +1,7 @@
 use mathlib.Core.Path.{refl, sym, subst}
 use lib.Dec.{T}
 use lib.Ieee.Compare.{differs-from-itself}
-use Rattle.float_bits.proofs.Word.{nan-bits}
-use Rattle.float_bits.proofs.Decode.{real}
+use Rattle.float_bits.proofs.Word.{nan-bits, real}
 use Rattle.float_bits.proofs.words.f32_to_word.Statement.{statement}
 use Rattle.float_bits.proofs.words.f32_to_word.Tie as tie
 

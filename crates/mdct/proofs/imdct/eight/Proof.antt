@@ -10,7 +10,7 @@ use lib.Ieee.{Float, nan, binary64, ofBits, add}
 use Rattle.loops.specs.Front.{front, tab, tab-none, tab-more, tab-same, length-tab, getD-tab}
 use Rattle.loops.specs.Sum.{sumTo, sum-none, sum-more}
 use Rattle.mdct.specs.Imdct.{imdctTerm, imdctSum}
-use Rattle.mdct.proofs.Sizes.{Size, sized, even, at-least, at-most}
+use Rattle.cosine_circle.proofs.Sizes.{Size, sized, even, at-least, at-most}
 use Rattle.mdct.proofs.Angles.{place, place-less, place-none, place-more}
 use Rattle.mdct.proofs.Fronts.{lane, lanes-all, tab-const}
 use Rattle.mdct.proofs.Terms.{term-is}

@@ -1,11 +1,14 @@
 -- `imdct::imdct_naive_f32` meets its contract: two refusals that touch nothing, and the outputs.
-use mathlib.Core.Path.{_≡_, refl, _∙_, sym}
+use mathlib.Core.Path.{_≡_, refl, _∙_, sym, subst}
+use mathlib.Core.Bool.{true}
 use Prim.Native.Nat.{_*_}
 use lib.ListN.{length}
 use borrow.Author.Needs.{needs}
+use borrow.Author.Tests.{not-true, not-false}
 use Rattle.loops.specs.Reply.{reply-yes, reply-no}
 use Rattle.mdct.specs.Imdct.{takes, takes-no-size, takes-no-room, imdctReply}
-use borrow.Author.Tests.{not-true, not-false}
+use Rattle.cosine_circle.specs.Circle.{isFrameSize, IsCircle}
+use Rattle.cosine_circle.proofs.Circles.{circle-is}
 use Rattle.mdct.proofs.imdct.imdct_naive_f32.Statement.{statement}
 use Rattle.mdct.proofs.imdct.imdct_naive_f32.Tie as tie
 
@@ -27,18 +30,15 @@ returns-2 c =
     let f = takes-no-room _ _ (sym (c .before .before .is-frame-size .ensures) ∙ not-false _ (c .before .if1 .left)) (c .if2 .taken) in
     reply-no _ _ _ f refl
 
-cosines-requires : tie.Need-cosines-requires
-cosines-requires c κs = search needs
-
 circle-requires : tie.Need-circle-requires
-circle-requires c κs =
-    let o = c .before .before .before in
-    (c .before .cosines .ensures, sym (o .before .is-frame-size .ensures) ∙ not-false _ (o .if1 .left))
+circle-requires c κs = search needs
 
 outputs-requires : tie.Need-outputs-requires
 outputs-requires c κs =
-    let o = c .before .before .before .before .before .before in
-    (c .before .before .circle .ensures, (sym (o .before .is-frame-size .ensures) ∙ not-false _ (o .if1 .left), search needs))
+    let o = c .before .before .before .before in
+    let n = length (o .before .before .before .before .args .spectrum .now) in
+    let f : isFrameSize n ≡ true = sym (o .before .is-frame-size .ensures) ∙ not-false _ (o .if1 .left) in
+    (subst (IsCircle n) (sym (c .before .before .circle .ensures)) (circle-is n f), (f, search needs))
 
 same-length : tie.Need-same-length
 same-length c = search needs
@@ -46,7 +46,7 @@ same-length c = search needs
 returns-3 : tie.Need-returns-3
 unfolding imdctReply
 returns-3 c =
-    let o = c .before .before .before .before .before .before .before .before .before in
+    let o = c .before .before .before .before .before .before .before in
     let a = o .before .before .before .before .args in
     let m : length (a .out .now) ≡ 2 * length (a .spectrum .now) = search needs in
     let f = takes _ _ (sym (o .before .is-frame-size .ensures) ∙ not-false _ (o .if1 .left)) m in
@@ -60,7 +60,6 @@ imdct-naive-f32-spec =
     returns
     mul-if2
     returns-2
-    cosines-requires
     circle-requires
     outputs-requires
     same-length

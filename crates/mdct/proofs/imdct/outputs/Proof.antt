@@ -7,7 +7,7 @@ use borrow.Author.Needs.{needs}
 use lib.Ieee.{nan}
 use Rattle.loops.specs.Front.{front, tab, tab-none, tab-all, getD-tab}
 use Rattle.mdct.specs.Imdct.{halfOf, imdctAt, imdct}
-use Rattle.mdct.proofs.Sizes.{sized, at-most, eights, next-eight}
+use Rattle.cosine_circle.proofs.Sizes.{sized, at-most, eights, next-eight}
 use Rattle.mdct.proofs.Fronts.{rest-all}
 use Rattle.mdct.proofs.imdct.outputs.Statement.{statement}
 use Rattle.mdct.proofs.imdct.outputs.Tie as tie

@@ -8,7 +8,7 @@ use Rattle.noise_block.specs.Spectrum.{gainOfBand, gainTurn}
 use Rattle.loops.specs.Fold.{foldRange, range-none}
 use Rattle.noise_block.proofs.Laws.{gains-more}
 use lib.Ieee.{nan, binary32, add}
-use Rattle.custom_mode.specs.Gain.{gainOf}
+use Rattle.band_gain.specs.Gain.{gainOf}
 use borrow.Rule.Slice.PartMut.{midOf, mid-len, same-len-mid}
 use Rattle.noise_block.proofs.spectrum.apply_gains.Statement.{statement}
 use Rattle.noise_block.proofs.spectrum.apply_gains.Tie as tie

@@ -1,0 +1,5 @@
+mod Tables
+mod Wholes
+mod Floor
+mod Limits
+mod Gains

@@ -1,0 +1,3 @@
+mod Quadrants
+pub mod Sizes
+pub mod Circles

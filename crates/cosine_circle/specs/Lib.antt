@@ -1,0 +1,2 @@
+-- The circle of cosines that a frame size reads.
+pub mod Circle

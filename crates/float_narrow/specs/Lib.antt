@@ -1,0 +1,4 @@
+-- An f64 to the nearest f32, over the kit's account of IEEE 754.
+pub mod Narrow
+pub mod Steps
+pub mod Marked
