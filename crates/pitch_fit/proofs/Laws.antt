@@ -16,9 +16,10 @@ use Rattle.buffers.specs.Buffers.{copied, copied-all}
 use Rattle.history.specs.History.{half, samples, channel, whole, tailAt, tails}
 use Rattle.history.proofs.Parts.{slice-take}
 use Rattle.celt_window.specs.Window.{window}
-use Rattle.plc.specs.Autocorr.{celtAutocorr, windowedEnds, length-celtAutocorr}
+use Rattle.plc.specs.Autocorr.{celtAutocorr, length-celtAutocorr}
+use Rattle.plc_window.specs.Window.{windowedEnds}
 use Rattle.plc_lpc.specs.Lpc.{celtLpc}
-use Rattle.plc.specs.LagWindow.{lagWindow, length-lagWindow}
+use Rattle.plc_lag_window.specs.LagWindow.{lagWindow, length-lagWindow}
 use Rattle.plc_search.specs.Search.{pitchSearch}
 use Rattle.plc_search.specs.Offset.{offset-le}
 use Rattle.plc_downsample.specs.Downsample.{pitchDownsample, pitchDownsamplePair, downsampleTakes, downsamplePairTakes}

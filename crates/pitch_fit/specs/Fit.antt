@@ -8,9 +8,10 @@ use lib.Dec.{eqb}
 use lib.Ieee.{Float}
 use Rattle.history.specs.History.{half, Tails}
 use Rattle.celt_window.specs.Window.{window}
-use Rattle.plc.specs.Autocorr.{celtAutocorr, windowedEnds}
+use Rattle.plc.specs.Autocorr.{celtAutocorr}
+use Rattle.plc_window.specs.Window.{windowedEnds}
 use Rattle.plc_lpc.specs.Lpc.{celtLpc, length-celtLpc}
-use Rattle.plc.specs.LagWindow.{lagWindow}
+use Rattle.plc_lag_window.specs.LagWindow.{lagWindow}
 
 -- how many coefficients a predictor has
 abbrev pub order : ℕ

@@ -17,7 +17,7 @@ fn fit(new: &[f32], lpc: &mut [f32])
     buffers::copy(&mut x, new);
     let w = celt_window::window();
     let mut ac = plc::autocorr::celt_autocorr_windowed(&x, &w);
-    plc::lag_window::lag_window(&mut ac);
+    plc_lag_window::lag_window(&mut ac);
     plc_lpc::celt_lpc(lpc, &ac);
 }
 

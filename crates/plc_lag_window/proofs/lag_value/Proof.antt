@@ -1,4 +1,4 @@
-use Rattle.plc.specs.LagWindow.{lagValue, lagWindowed, lagFactor}
+use Rattle.plc_lag_window.specs.LagWindow.{lagValue, lagWindowed, lagFactor}
 use Rattle.loops.specs.Pick.{pick-true, pick-false}
 use borrow.Author.Tests.{eq-eqb, ne-eqb}
 use Prim.Native.Nat.{_^_}
@@ -6,8 +6,8 @@ use lib.Dec.{le→leb}
 use lib.Ieee.{inFloat}
 use mathlib.Core.Path.{sym}
 use native.Mathlib.Omega.{arith}
-use Rattle.plc.proofs.lag_window.lag_value.Statement.{statement}
-use Rattle.plc.proofs.lag_window.lag_value.Tie as tie
+use Rattle.plc_lag_window.proofs.lag_value.Statement.{statement}
+use Rattle.plc_lag_window.proofs.lag_value.Tie as tie
 
 returns : tie.Need-returns
 unfolding lagValue

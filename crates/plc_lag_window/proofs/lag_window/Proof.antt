@@ -1,14 +1,14 @@
 use Rattle.loops.specs.Reply.{reply-yes, reply-no}
 use Rattle.loops.specs.Front.{front, tab, tab-none, tab-more, tab-read, tab-all}
-use Rattle.plc.specs.LagWindow.{lagValue, lagWindow}
+use Rattle.plc_lag_window.specs.LagWindow.{lagValue, lagWindow}
 use borrow.Author.Tests.{le-leb, lt-leb}
 use lib.Ieee.{nan}
 use mathlib.Core.Path.{_≡_, refl, ap, _∙_}
 use Prim.Native.Nat.{ℕ, _≤_, _<_, _-_}
 use lib.ListN.{length, getD, length-set}
 use borrow.Author.Needs.{needs}
-use Rattle.plc.proofs.lag_window.lag_window.Statement.{statement}
-use Rattle.plc.proofs.lag_window.lag_window.Tie as tie
+use Rattle.plc_lag_window.proofs.lag_window.Statement.{statement}
+use Rattle.plc_lag_window.proofs.lag_window.Tie as tie
 
 abbrev Inv-loop : tie.InvT-loop
 Inv-loop ac₀ n i₀ ac i =

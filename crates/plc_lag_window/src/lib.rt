@@ -4,7 +4,7 @@ ghost use Prim.Native.Nat.{_≤_};
 ghost use lib.Dec.{leb};
 ghost use lib.ListN.{length};
 ghost use Rattle.loops.specs.Reply.{reply, replyIf};
-ghost use Rattle.plc.specs.LagWindow.{lagValue, lagWindow};
+ghost use Rattle.plc_lag_window.specs.LagWindow.{lagValue, lagWindow};
 
 // The lags that f32 counts exactly, with room to spare.
 const MOST_LAGS: usize = 65536;

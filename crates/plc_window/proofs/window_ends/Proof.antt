@@ -4,9 +4,9 @@ use Prim.Native.Nat.{_≤_, _-_}
 use lib.ListN.{length, length-set}
 use borrow.Author.Needs.{needs}
 use Rattle.loops.specs.Fold.{foldTo, fold-none, fold-more}
-use Rattle.plc.specs.Autocorr.{windowTurn, windowedEnds}
-use Rattle.plc.proofs.autocorr.window_ends.Statement.{statement}
-use Rattle.plc.proofs.autocorr.window_ends.Tie as tie
+use Rattle.plc_window.specs.Window.{windowTurn, windowedEnds}
+use Rattle.plc_window.proofs.window_ends.Statement.{statement}
+use Rattle.plc_window.proofs.window_ends.Tie as tie
 
 abbrev Inv-loop : tie.InvT-loop
 Inv-loop x window xx₀ n overlap i₀ xx i = (i ≤ overlap) × (length xx ≡ n) × (xx ≡ foldTo (windowTurn x window) x i)
