@@ -17,7 +17,7 @@ use Rattle.state.specs.Refusal.{lagLeast, lagMost, checkLag}
 use Rattle.state.specs.declared.State.{State}
 use Rattle.state.proofs.Passed.{frame-high}
 use Rattle.state.proofs.Keep.{Ok, lag-range, range-lag, noise-searches}
-use Rattle.pitch_fit.specs.Lag.{lagOf}
+use Rattle.pitch_lag.specs.Lag.{lagOf}
 use Rattle.pitch_loss.specs.PitchLoss.{pitchTails}
 use Rattle.pitch_loss.proofs.Tails.{pitches-sized}
 use Rattle.noise_loss.specs.Loss.{noiseTails}

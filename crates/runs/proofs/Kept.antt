@@ -17,7 +17,7 @@ use Rattle.state.specs.Refusal.{checkPcm, refusesState, refusal}
 use Rattle.state.specs.declared.State.{State}
 use Rattle.state.proofs.Passed.{or-zero}
 use Rattle.state.proofs.Keep.{Ok, ok-start}
-use Rattle.pitch_fit.specs.Lag.{lowPassed, lagOf}
+use Rattle.pitch_lag.specs.Lag.{lowPassed, lagOf}
 use Rattle.ref_decode.specs.Loss.{made, tailsAfter, historyAfter, finish, concealed, refused, answered, loss}
 use Rattle.ref_decode.proofs.Keep.{after-sized, made-lag}
 use Rattle.runs.specs.Kept.{oldest, EachUsed}

@@ -4,8 +4,8 @@ use borrow.Author.Needs.{needs}
 use borrow.Author.Tests.{eq-eqb, ne-eqb}
 use Rattle.loops.specs.Reply.{reply-yes, reply-no}
 use Rattle.history.specs.History.{whole}
-use Rattle.pitch_fit.proofs.fit_predictor.Statement.{statement}
-use Rattle.pitch_fit.proofs.fit_predictor.Tie as tie
+use Rattle.pitch_predictor.proofs.fit_predictor.Statement.{statement}
+use Rattle.pitch_predictor.proofs.fit_predictor.Tie as tie
 
 returns : tie.Need-returns
 returns c = reply-no _ _ _ (ne-eqb _ _ (c .if1 .taken)) refl

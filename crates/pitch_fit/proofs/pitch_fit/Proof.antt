@@ -7,8 +7,8 @@ use Rattle.loops.specs.Logic.{and-both, and-first, and-second}
 use Rattle.loops.specs.Reply.{reply-yes, reply-no}
 use Rattle.history.specs.History.{half}
 use Rattle.pitch_fit.specs.Fit.{order, fitTakes}
-use Rattle.pitch_fit.proofs.fit.pitch_fit.Statement.{statement}
-use Rattle.pitch_fit.proofs.fit.pitch_fit.Tie as tie
+use Rattle.pitch_fit.proofs.pitch_fit.Statement.{statement}
+use Rattle.pitch_fit.proofs.pitch_fit.Tie as tie
 
 returns : tie.Need-returns
 unfolding fitTakes

@@ -1,8 +1,8 @@
 use mathlib.Core.Path.{_≡_, refl}
 use borrow.Author.Needs.{needs}
 use Rattle.pitch_fit.proofs.Laws.{fit-is}
-use Rattle.pitch_fit.proofs.fit.fit.Statement.{statement}
-use Rattle.pitch_fit.proofs.fit.fit.Tie as tie
+use Rattle.pitch_fit.proofs.fit.Statement.{statement}
+use Rattle.pitch_fit.proofs.fit.Tie as tie
 
 slice-aggregate-copy : tie.Need-slice-aggregate-copy
 slice-aggregate-copy c = search needs

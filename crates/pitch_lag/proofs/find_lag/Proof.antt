@@ -4,9 +4,9 @@ use borrow.Author.Needs.{needs}
 use borrow.Author.Tests.{eq-eqb, ne-eqb}
 use Rattle.loops.specs.Reply.{reply-yes, reply-no}
 use Rattle.history.specs.History.{whole}
-use Rattle.pitch_fit.proofs.Laws.{search-most, lag-is}
-use Rattle.pitch_fit.proofs.find_lag.Statement.{statement}
-use Rattle.pitch_fit.proofs.find_lag.Tie as tie
+use Rattle.pitch_lag.proofs.Laws.{search-most, lag-is}
+use Rattle.pitch_lag.proofs.find_lag.Statement.{statement}
+use Rattle.pitch_lag.proofs.find_lag.Tie as tie
 
 returns : tie.Need-returns
 returns c = reply-no _ _ _ (ne-eqb _ _ (c .if1 .taken)) refl

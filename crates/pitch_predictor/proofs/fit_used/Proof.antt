@@ -5,10 +5,10 @@ use native.Mathlib.Omega.{arith}
 use lib.ListN.{length}
 use lib.Ieee.{Float}
 use borrow.Author.Needs.{needs}
 use Rattle.pitch_fit.specs.Fit.{order}
-use Rattle.pitch_fit.proofs.Laws.{fit-first, room-second, fit-second, fit-mono, fit-stereo}
-use Rattle.pitch_fit.proofs.fit_used.Statement.{statement}
-use Rattle.pitch_fit.proofs.fit_used.Tie as tie
+use Rattle.pitch_predictor.proofs.Laws.{fit-first, room-second, fit-second, fit-mono, fit-stereo}
+use Rattle.pitch_predictor.proofs.fit_used.Statement.{statement}
+use Rattle.pitch_predictor.proofs.fit_used.Tie as tie
 
 sub-pitch-fit : tie.Need-sub-pitch-fit
 sub-pitch-fit c = search needs

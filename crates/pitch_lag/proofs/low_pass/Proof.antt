@@ -3,9 +3,9 @@ use lib.ListN.{replicate}
 use borrow.Author.Needs.{needs}
 use Rattle.buffers.specs.Buffers.{zero32}
 use Rattle.history.specs.History.{half}
-use Rattle.pitch_fit.proofs.Laws.{low-one, low-two}
-use Rattle.pitch_fit.proofs.low_pass.Statement.{statement}
-use Rattle.pitch_fit.proofs.low_pass.Tie as tie
+use Rattle.pitch_lag.proofs.Laws.{low-one, low-two}
+use Rattle.pitch_lag.proofs.low_pass.Statement.{statement}
+use Rattle.pitch_lag.proofs.low_pass.Tie as tie
 
 add-end : tie.Need-add-end
 add-end c = search needs
