@@ -1,6 +1,6 @@
 // Ops 301 to 307: the downsampling and the lag search.
 use crate::streams;
-use pitch_fit::find_lag;
+use pitch_lag::find_lag;
 use plc_best::Pitches;
 use plc_best::find_best_pitch;
 use plc_downsample::pitch_downsample;

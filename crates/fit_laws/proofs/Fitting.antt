@@ -18,8 +18,9 @@ use Rattle.state.specs.Refusal.{checkCount, checkPcm, refusesState, refusal}
 use Rattle.state.specs.declared.State.{State}
 use Rattle.settings.proofs.Passed.{or-zero, passes, passed}
 use Rattle.state.proofs.Keep.{Ok, ok-start}
-use Rattle.pitch_fit.specs.Fit.{order, pitchFit, length-pitchFit, fittedTo}
-use Rattle.pitch_fit.specs.Lag.{lagOf}
+use Rattle.pitch_fit.specs.Fit.{order, pitchFit, length-pitchFit}
+use Rattle.pitch_predictor.specs.Predictor.{fittedTo}
+use Rattle.pitch_lag.specs.Lag.{lagOf}
 use Rattle.noise_energies.specs.Energies.{length-lowerEnergies}
 use Rattle.noise_loss.specs.Loss.{Blocks, noiseBlocks, noiseSeed}
 use Rattle.deemphasis.specs.Deemphasis.{deemphasis, length-memories}

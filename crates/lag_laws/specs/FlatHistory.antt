@@ -15,7 +15,7 @@ use Rattle.loops.specs.Sum.{sumTo}
 use Rattle.buffers.specs.Buffers.{zero32}
 use Rattle.plc.specs.Const.{floor32}
 use Rattle.plc.specs.Autocorr.{lagTerm, lagTo, lagSum, celtAutocorr}
-use Rattle.plc.specs.LagWindow.{lagFactor, lagWindowed, lagValue, lagWindow}
+use Rattle.plc_lag_window.specs.LagWindow.{lagFactor, lagWindowed, lagValue, lagWindow}
 use Rattle.plc_lpc.specs.Lpc.{lpcTo, celtLpc, length-celtLpc}
 use Rattle.plc_pad.specs.Past.{past}
 use Rattle.plc_fir.specs.Fir.{firAt, celtFir, length-celtFir}

@@ -11,8 +11,8 @@ use Rattle.state.specs.State.{searches}
 use Rattle.state.specs.Refusal.{checkPcm, refusesState, refusal}
 use Rattle.state.specs.declared.State.{State}
 use Rattle.state.proofs.Keep.{ok-start}
-use Rattle.pitch_fit.specs.Lag.{lagOf}
-use Rattle.pitch_fit.specs.Fit.{fittedTo}
+use Rattle.pitch_lag.specs.Lag.{lagOf}
+use Rattle.pitch_predictor.specs.Predictor.{fittedTo}
 use Rattle.history.specs.History.{tails}
 use Rattle.loss.specs.Loss.{made, frameSound, finish, concealed, refused, answered, loss}
 use Rattle.loss.proofs.Fields.{made-kind, made-undrawn, made-lag, made-predictor}

@@ -8,8 +8,8 @@ use Rattle.settings.specs.Settings.{stereo}
 use Rattle.state.specs.State.{core, noisy, searches}
 use Rattle.state.specs.declared.State.{State}
 use Rattle.state.proofs.Keep.{noise-searches}
-use Rattle.pitch_fit.specs.Lag.{lagOf}
-use Rattle.pitch_fit.specs.Fit.{fittedTo}
+use Rattle.pitch_lag.specs.Lag.{lagOf}
+use Rattle.pitch_predictor.specs.Predictor.{fittedTo}
 use Rattle.loss.specs.Loss.{noiseMade, pitchMade, made}
 
 module _ (s : State) (h : List Float) where

@@ -6,7 +6,7 @@ use native.Mathlib.Omega.{arith}
 use lib.Ieee.{Float}
 use Rattle.state.specs.Refusal.{lagLeast, lagMost}
 use Rattle.plc_search.specs.Offset.{offset-le}
-use Rattle.pitch_fit.specs.Lag.{lagOf, lowPassed}
+use Rattle.pitch_lag.specs.Lag.{lagOf, lowPassed}
 
 pub lag-low : (two : Bool) (h : List Float) → lagLeast ≤ lagOf two h
 unfolding lagOf

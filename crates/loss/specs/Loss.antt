@@ -14,8 +14,8 @@ use Rattle.state.specs.Answer.{Report, reportOf}
 use Rattle.settings.specs.declared.Settings.{Settings}
 use Rattle.state.specs.declared.State.{State}
 use Rattle.state.specs.declared.Answer.{Answer}
-use Rattle.pitch_fit.specs.Lag.{lagOf}
-use Rattle.pitch_fit.specs.Fit.{fittedTo}
+use Rattle.pitch_lag.specs.Lag.{lagOf}
+use Rattle.pitch_predictor.specs.Predictor.{fittedTo}
 use Rattle.pitch_loss.specs.PitchLoss.{pitchTails}
 use Rattle.noise_energies.specs.Energies.{lowerEnergies, readEnergies}
 use Rattle.noise_loss.specs.Loss.{Blocks, noiseBlocks, noiseSeed, noiseTails}

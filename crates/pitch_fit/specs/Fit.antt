@@ -1,16 +1,17 @@
--- The predictors that a first pitch loss fits.
+-- The predictor of one channel that a first pitch loss fits.
 use mathlib.Core.Path.{_≡_}
 use Prim.Native.Nat.{ℕ}
-use mathlib.Core.Bool.{Bool, cond, _&&_}
-use mathlib.Core.List.{List, _++_}
-use lib.ListN.{length, drop}
+use mathlib.Core.Bool.{Bool, _&&_}
+use mathlib.Core.List.{List}
+use lib.ListN.{length}
 use lib.Dec.{eqb}
 use lib.Ieee.{Float}
-use Rattle.history.specs.History.{half, Tails}
+use Rattle.history.specs.History.{half}
 use Rattle.celt_window.specs.Window.{window}
-use Rattle.plc.specs.Autocorr.{celtAutocorr, windowedEnds}
+use Rattle.plc.specs.Autocorr.{celtAutocorr}
+use Rattle.plc_window.specs.Window.{windowedEnds}
 use Rattle.plc_lpc.specs.Lpc.{celtLpc, length-celtLpc}
-use Rattle.plc.specs.LagWindow.{lagWindow}
+use Rattle.plc_lag_window.specs.LagWindow.{lagWindow}
 
 -- how many coefficients a predictor has
 abbrev pub order : ℕ
@@ -27,7 +28,3 @@ length-pitchFit new = length-celtLpc _ order
 -- how many samples, how many coefficients
 unfoldable pub fitTakes : ℕ → ℕ → Bool
 fitTakes n m = eqb n half && eqb m order
-
--- the used channels' coefficients fitted anew, of two or one; an unused channel's are carried
-unfoldable pub fittedTo : Bool → List Float → Tails → List Float
-fittedTo two predictor t = pitchFit (t .first .new) ++ cond two (pitchFit (t .second .new)) (drop order predictor)

@@ -1,3 +1,2 @@
--- What a first pitch loss works out: the lag and the predictors.
-pub mod Lag
+-- The predictor that a first pitch loss fits to a channel.
 pub mod Fit

@@ -1,98 +1,37 @@
-// What a first pitch loss works out from a whole history: the lag, and the predictors of the used channels.
+// The predictor of one channel, which a first pitch loss fits.
 ghost use mathlib.Core.Path.{_≡_};
-ghost use lib.Dec.{eqb};
 ghost use lib.ListN.{length};
 ghost use Rattle.loops.specs.Reply.{reply, replyIf};
-ghost use Rattle.history.specs.History.{whole, tails};
-ghost use Rattle.pitch_fit.specs.Lag.{lowPassed, lagOf};
-ghost use Rattle.pitch_fit.specs.Fit.{fittedTo};
-use fit::ORDER;
-use fit::pitch_fit;
-use history::CHANNEL;
+ghost use Rattle.history.specs.History.{half};
+ghost use Rattle.pitch_fit.specs.Fit.{order, pitchFit, fitTakes};
 use history::HALF;
-use history::SAMPLES;
-use history::WHOLE;
-use plc_downsample::pitch_downsample;
-use plc_downsample::pitch_downsample_pair;
-use plc_search::pitch_search;
 
-pub mod fit;
+// How many coefficients a predictor has.
+pub const ORDER: usize = 24;
 
-// The longest lag.
-const LAG_MOST: usize = 720;
-
-// Both channels' coefficients.
-const BOTH: usize = 2 * ORDER;
-
-pub struct Found {
-    pub taken: bool,
-    pub lag: u32,
-}
-
-pub struct Fitted {
-    pub taken: bool,
-    pub predictor: [f32; 48],
-}
-
-// What the search reads: the used channels' 2,048 samples at half the rate.
-fn low_pass(two: bool, history: &[f32]) -> [f32; 1024]
-    requires { ⌜ length (now history) ≡ whole ⌝ }
-    ensures { λ r. ⌜ r ≡ lowPassed two (now (history .entry)) ⌝ }
+fn fit(new: &[f32], lpc: &mut [f32])
+    requires { ⌜ (length (now new) ≡ half) × (length (now lpc) ≡ order) ⌝ }
+    ensures { λ _. ⌜ now (lpc .exit) ≡ pitchFit (now (new .entry)) ⌝ }
 {
-    let mut low = [0.0f32; HALF];
-    if two {
-        let end = CHANNEL + SAMPLES;
-        pitch_downsample_pair(&history[0..SAMPLES], &history[CHANNEL..end], &mut low);
-        return low;
-    }
-    pitch_downsample(&history[0..SAMPLES], &mut low);
-    low
+    let mut x = [0.0f32; HALF];
+    buffers::copy(&mut x, new);
+    let w = celt_window::window();
+    let mut ac = plc::autocorr::celt_autocorr_windowed(&x, &w);
+    plc_lag_window::lag_window(&mut ac);
+    plc_lpc::celt_lpc(lpc, &ac);
 }
 
-// The lag of a history, of two channels or one. Refused, with lag 0: a history not of 4,336 samples.
-pub fn find_lag(two: bool, history: &[f32]) -> Found
-    ensures { λ r. ⌜ reply (r .taken) (r .lag) ≡ replyIf (eqb (length (now (history .entry))) whole) (lagOf two (now (history .entry))) 0 ⌝ }
+// 24 coefficients from a channel's newest 1,024 samples; other lengths are refused, and lpc stays.
+pub fn pitch_fit(new: &[f32], lpc: &mut [f32]) -> bool
+    ensures { λ r. ⌜ reply r (now (lpc .exit))
+        ≡ replyIf (fitTakes (length (now (new .entry))) (length (now (lpc .entry)))) (pitchFit (now (new .entry))) (now (lpc .entry)) ⌝ }
 {
-    if history.len() != WHOLE {
-        return Found {
-            taken: false,
-            lag: 0,
-        };
+    if new.len() != HALF {
+        return false;
     }
-    let low = low_pass(two, history);
-    let lag = (LAG_MOST - pitch_search(&low)) as u32;
-    Found { taken: true, lag }
-}
-
-fn fit_used(two: bool, history: &[f32], predictor: [f32; 48]) -> [f32; 48]
-    requires { ⌜ length (now history) ≡ whole ⌝ }
-    ensures { λ r. ⌜ r ≡ fittedTo two predictor (tails (now (history .entry))) ⌝ }
-{
-    let mut p = predictor;
-    pitch_fit(&history[HALF..SAMPLES], &mut p[0..ORDER]);
-    if two {
-        let second = CHANNEL + HALF;
-        let end = CHANNEL + SAMPLES;
-        pitch_fit(&history[second..end], &mut p[ORDER..BOTH]);
-        return p;
+    if lpc.len() != ORDER {
+        return false;
     }
-    p
-}
-
-// The used channels' coefficients fitted anew; an unused channel's are carried. Refused, with the predictor as given: a history not of 4,336 samples.
-pub fn fit_predictor(two: bool, history: &[f32], predictor: [f32; 48]) -> Fitted
-    ensures { λ r. ⌜ reply (r .taken) (r .predictor)
-        ≡ replyIf (eqb (length (now (history .entry))) whole) (fittedTo two predictor (tails (now (history .entry)))) predictor ⌝ }
-{
-    if history.len() != WHOLE {
-        return Fitted {
-            taken: false,
-            predictor,
-        };
-    }
-    let p = fit_used(two, history, predictor);
-    Fitted {
-        taken: true,
-        predictor: p,
-    }
+    fit(new, lpc);
+    true
 }

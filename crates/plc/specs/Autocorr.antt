@@ -4,7 +4,6 @@ use mathlib.Core.List.{List}
 use Prim.Native.Nat.{ℕ, _+_, _-_}
 use lib.ListN.{length, getD, set, length-set}
 use lib.Ieee.{Float, nan, binary32, add, mul}
-use Rattle.loops.specs.Fold.{foldTo, fold-keeps}
 use Rattle.loops.specs.Front.{tab, length-tab}
 use Rattle.loops.specs.Sum.{sumTo}
 use Rattle.buffers.specs.Buffers.{zero32}
@@ -28,20 +27,6 @@ celtAutocorr x n = set (tab (lagSum x) n) 0 (add binary32 (lagSum x 0) floor32)
 pub length-celtAutocorr : (x : List Float) (n : ℕ) → length (celtAutocorr x n) ≡ n
 unfolding celtAutocorr
 length-celtAutocorr x n = simp (length-set, length-tab)
-
--- window[i] on the sample i from either end
-abbrev pub windowTurn : List Float → List Float → List Float → ℕ → List Float
-windowTurn x window xx i =
-    set (set xx i (mul binary32 (getD x i nan) (getD window i nan))) (length x - i - 1)
-    (mul binary32 (getD x (length x - i - 1) nan) (getD window i nan))
-
--- x with the window on its first and last samples
-unfoldable pub windowedEnds : List Float → List Float → List Float
-windowedEnds x window = foldTo (windowTurn x window) x (length window)
-
-pub length-windowedEnds : (x window : List Float) → length (windowedEnds x window) ≡ length x
-unfolding windowedEnds
-length-windowedEnds x window = fold-keeps length (windowTurn x window) x (length window) (λ s i. simp length-set)
 
 -- the sums of n lags below end, the longest lag first: what runs side by side
 abbrev pub rowAt : List Float → ℕ → ℕ → ℕ → Float

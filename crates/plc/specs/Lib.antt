@@ -1,4 +1,3 @@
--- What plc.rs computes ahead of its filters: each definition has the steps of the Rust function whose name it bears.
+-- The autocorrelation of plc.rs.
 pub mod Const
 pub mod Autocorr
-pub mod LagWindow

@@ -2,7 +2,8 @@
 ghost use mathlib.Core.Path.{_≡_};
 ghost use Prim.Native.Nat.{_+_, _-_, _≤_, _<_};
 ghost use lib.ListN.{length};
-ghost use Rattle.plc.specs.Autocorr.{celtAutocorr, windowedEnds, lagRow};
+ghost use Rattle.plc_window.specs.Window.{windowedEnds};
+ghost use Rattle.plc.specs.Autocorr.{celtAutocorr, lagRow};
 
 // What the correlation at lag 0 rises by.
 const NOISE_FLOOR: f32 = 10.0;
@@ -64,26 +65,11 @@ pub fn celt_autocorr(x: &[f32; 1024]) -> [f32; 5]
     ac
 }
 
-// Puts the window on both ends of xx, a copy of x.
-fn window_ends(x: &[f32], window: &[f32], xx: &mut [f32])
-    requires { ⌜ (length (now window) ≤ length (now x)) × (now xx ≡ now x) ⌝ }
-    ensures { λ _. ⌜ now (xx .exit) ≡ windowedEnds (now (x .entry)) (now (window .entry)) ⌝ }
-{
-    let n = x.len();
-    let overlap = window.len();
-    for i in 0..overlap {
-        let w = window[i];
-        xx[i] = x[i] * w;
-        xx[n - i - 1] = x[n - i - 1] * w;
-    }
-}
-
 // The correlations at the lags 0 to 24, the window on both ends.
 pub fn celt_autocorr_windowed(x: &[f32; 1024], window: &[f32; 120]) -> [f32; 25]
     ensures { λ r. ⌜ r ≡ celtAutocorr (windowedEnds (now (x .entry)) (now (window .entry))) 25 ⌝ }
 {
-    let mut xx = *x;
-    window_ends(x, window, &mut xx);
+    let xx = plc_window::windowed_ends(x, window);
     let mut row = [0.0f32; 25];
     first_terms(&xx, &mut row);
     other_terms(&xx, &mut row);

@@ -1,3 +1,2 @@
-// Correlation, its windowing, and the linear predictor of packet-loss concealment.
+// The autocorrelation of packet-loss concealment.
 pub mod autocorr;
-pub mod lag_window;

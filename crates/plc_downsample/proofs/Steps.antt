@@ -12,7 +12,7 @@ use Rattle.loops.specs.Logic.{and-first, and-second, and-both}
 use Rattle.loops.specs.Reply.{reply, replyIf, reply-lent}
 use Rattle.buffers.specs.Buffers.{zero32}
 use Rattle.plc.specs.Autocorr.{celtAutocorr, length-celtAutocorr}
-use Rattle.plc.specs.LagWindow.{lagWindow, length-lagWindow}
+use Rattle.plc_lag_window.specs.LagWindow.{lagWindow, length-lagWindow}
 use Rattle.plc_lpc.specs.Lpc.{celtLpc, length-celtLpc}
 use Rattle.plc_fir.specs.Fir.{celtFir, firTakes, length-celtFir}
 use Rattle.plc_downsample.specs.Downsample.{damped, whitener, whitenLp, tilt, downsampleTakes, downsamplePairTakes}

@@ -12,7 +12,7 @@ use Rattle.plc.specs.Autocorr.{celtAutocorr}
 use Rattle.plc_lpc.specs.Lpc.{celtLpc}
 use Rattle.plc_fir.specs.Fir.{celtFir, length-celtFir}
 use Rattle.buffers.specs.Buffers.{zero32, one32}
-use Rattle.plc.specs.LagWindow.{lagWindow}
+use Rattle.plc_lag_window.specs.LagWindow.{lagWindow}
 
 -- 0.5, 0.9 and 0.8
 abbrev pub half32 : Float

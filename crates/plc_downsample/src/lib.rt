@@ -5,7 +5,7 @@ ghost use lib.ListN.{length};
 ghost use Rattle.loops.specs.Reply.{reply, replyIf};
 ghost use Rattle.plc_downsample.specs.Downsample.{smoothedAt, smoothed, smoothedPair, damped, whitener, whitenLp};
 ghost use Rattle.plc_downsample.specs.Downsample.{downsampleTakes, pitchDownsample, downsamplePairTakes, pitchDownsamplePair};
-use plc::lag_window::lag_window;
+use plc_lag_window::lag_window;
 
 // The samples of a channel's history.
 const SAMPLES: usize = 2048;

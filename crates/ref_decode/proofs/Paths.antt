@@ -16,8 +16,8 @@ use Rattle.state.specs.State.{core, noisy, searches}
 use Rattle.state.specs.Refusal.{lagLeast, lagMost, refusesState, AcceptedState}
 use Rattle.state.specs.declared.State.{State}
 use Rattle.state.proofs.Keep.{Ok, ok-start, lag-range, pitch-start, pitch-count, pitch-searches}
-use Rattle.pitch_fit.specs.Lag.{lagOf}
-use Rattle.pitch_fit.specs.Fit.{fittedTo}
+use Rattle.pitch_lag.specs.Lag.{lagOf}
+use Rattle.pitch_predictor.specs.Predictor.{fittedTo}
 use Rattle.pitch_loss.specs.PitchLoss.{pitchTails, pitchTakes}
 use Rattle.noise_energies.specs.Energies.{lowerEnergies, readEnergies}
 use Rattle.noise_loss.specs.Loss.{Noised, noised, afterNoise, noiseTakes}

@@ -5,13 +5,13 @@ ghost use lib.ListN.{length};
 ghost use Rattle.history.specs.History.{whole, tails, withTails};
 ghost use Rattle.state.specs.State.{core, noisy};
 ghost use Rattle.state.specs.Refusal.{refusesState};
-ghost use Rattle.pitch_fit.specs.Lag.{lagOf};
-ghost use Rattle.pitch_fit.specs.Fit.{fittedTo};
+ghost use Rattle.pitch_lag.specs.Lag.{lagOf};
+ghost use Rattle.pitch_predictor.specs.Predictor.{fittedTo};
 ghost use Rattle.loss.specs.Loss.{pitchMade, tailsByPitch};
 use crate::PITCH_KIND;
 use loss::Made;
-use pitch_fit::find_lag;
-use pitch_fit::fit_predictor;
+use pitch_lag::find_lag;
+use pitch_predictor::fit_predictor;
 use pitch_loss::pitch_loss;
 use state::State;
 

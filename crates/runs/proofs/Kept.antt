@@ -16,7 +16,7 @@ use Rattle.state.specs.Refusal.{checkPcm, refusesState, refusal}
 use Rattle.state.specs.declared.State.{State}
 use Rattle.settings.proofs.Passed.{or-zero}
 use Rattle.state.proofs.Keep.{Ok, ok-start}
-use Rattle.pitch_fit.specs.Lag.{lowPassed, lagOf}
+use Rattle.pitch_lag.specs.Lag.{lowPassed, lagOf}
 use Rattle.loss.specs.Loss.{made, tailsAfter, historyAfter, finish, concealed, refused, answered, loss}
 use Rattle.loss.proofs.Fields.{made-lag}
 use Rattle.loss.proofs.Keep.{after-sized}

@@ -1,0 +1,2 @@
+-- The lag that a first pitch loss finds.
+pub mod Lag

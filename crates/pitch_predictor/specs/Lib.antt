@@ -1,0 +1,2 @@
+-- The predictors of a whole history.
+pub mod Predictor

@@ -1,0 +1,2 @@
+-- What both predictors of the Rust do to their correlations first.
+pub mod LagWindow
