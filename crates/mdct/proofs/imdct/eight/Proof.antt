@@ -192,7 +192,8 @@ loop2-again c =
     ∙ ap (λ z. (z + step d) % (4 * n d)) (at-is d)
     ∙ ap (λ z. (place (n d) (t d) (l .k) + z) % (4 * n d)) (step-is d)
     ∙ place-more (n d) (t d) (l .k) (omega (arith, at-least _ (size d))) in
-    let term = term-is (n d) _ _ _ _ _ _ (size d) (entry d .pre .0) (d .before .before .f32-to-f64 .ensures) (at-is d) in
+    let term =
+    term-is (n d) (a .circle .now) (a .x .now) (t d) (l .k) (at d) (d .before .before .f32-to-f64 .result) (size d) (entry d .pre .0) (d .before .before .f32-to-f64 .ensures) (at-is d) in
     let so-far = lane (sums (n d) (a .x .now) (a .t) (l .k)) _ nan _ _ 8 _ (l2 .inv .4) (l .inv .2) (search needs) in (
       search needs,
       simp length-set (search needs),

@@ -2,10 +2,10 @@ use mathlib.Core.Path.{_≡_, ap}
 use Prim.Native.Nat.{_-_, _*_}
 use native.Mathlib.Omega.{arith}
 use borrow.Author.Needs.{needs}
-use Rattle.noise_block.specs.Shape.{lo, lo-in}
-use Rattle.noise_block.proofs.Laws.{bound-part, bound-far, bound-one}
-use Rattle.noise_block.proofs.spectrum.bound_of.Statement.{statement}
-use Rattle.noise_block.proofs.spectrum.bound_of.Tie as tie
+use Rattle.noise_spectrum.specs.Shape.{lo, lo-in}
+use Rattle.noise_spectrum.proofs.Laws.{bound-part, bound-far, bound-one}
+use Rattle.noise_spectrum.proofs.bound_of.Statement.{statement}
+use Rattle.noise_spectrum.proofs.bound_of.Tie as tie
 
 band-edge-requires : tie.Need-band-edge-requires
 band-edge-requires c κs = search needs

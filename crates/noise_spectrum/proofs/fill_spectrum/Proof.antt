@@ -1,23 +1,17 @@
-use mathlib.Core.Path.{_≡_, ap, _∙_}
+use mathlib.Core.Path.{_≡_}
 use Prim.Native.Nat.{_≤_, _-_, _*_}
 use native.Mathlib.Omega.{arith}
 use lib.ListN.{length}
 use borrow.Author.Needs.{needs}
-use lib.ListN.{length-replicate}
-use Rattle.noise_block.specs.Shape.{noiseShape}
-use Rattle.buffers.specs.Buffers.{zero32}
-use Rattle.noise_block.proofs.Calls.{spectrum-is}
-use Rattle.noise_block.proofs.spectrum.fill_spectrum.Statement.{statement}
-use Rattle.noise_block.proofs.spectrum.fill_spectrum.Tie as tie
-
-whole : (c : tie.Start) → length (c .args .bins .now) ≡ 120 * c .args .m
-whole c = ap length (c .pre .4) ∙ length-replicate (120 * c .args .m) zero32
+use Rattle.noise_spectrum.proofs.Calls.{spectrum-is, seed-is}
+use Rattle.noise_spectrum.proofs.fill_spectrum.Statement.{statement}
+use Rattle.noise_spectrum.proofs.fill_spectrum.Tie as tie
 
 -- the bound lies within the bins
 inside : (c : tie.After-bound-of) → c .bound-of .result ≤ length (c .before .before .before .apply-gains .last .0)
 inside c =
     let o = c .before .before .before .before .before .before .before .before .before .before .before in
-    let l = whole o in
+    let l = o .pre .4 in
     let n = c .before .before .before .before .before .before .before .noise-shape in
     let g = c .before .before .before .apply-gains in
     let k : length (n .last .0) ≡ length (o .args .bins .now) = n .kept .0 in
@@ -28,13 +22,13 @@ inside c =
 noise-shape-requires : tie.Need-noise-shape-requires
 noise-shape-requires c κs =
     let o = c .before .before .before in
-    let l = whole o in
+    let l = o .pre .4 in
     (o .pre .0, omega arith, omega arith)
 
 apply-gains-requires : tie.Need-apply-gains-requires
 apply-gains-requires c κs =
     let o = c .before .before .before .before .before .before .before in
-    let l = whole o in
+    let l = o .pre .4 in
     let k : length (c .before .before .before .noise-shape .last .0) ≡ length (o .args .bins .now) = c .before .before .before .noise-shape .kept .0 in
     (o .pre .0, o .pre .1, o .pre .2, omega arith, o .pre .5)
 
@@ -68,9 +62,9 @@ returns c =
     let n = c .before .before .before .before .before .before .before .before .before .before .before .noise-shape in
     let g = c .before .before .before .before .before .before .before .apply-gains in
     let u = c .before .before .before .before in (
-      n .ensures .0 ∙ ap (λ z. noiseShape (a .m) (a .start) (a .seed) z .seed) (o .pre .4),
+      seed-is (a .m) (a .start) (a .end) (a .downsample) (a .seed) _ (a .energies .now) (a .bins .now) (n .ensures .0),
       spectrum-is (a .m) (a .start) (a .end) (a .downsample) (a .seed) (u .bound-of .result) (a .energies .now) (a .bins .now) (n .last .0) (g .last .0)
-          (c .before .before .fill .last .0) (o .pre .4) (n .ensures .1) (g .ensures) (u .bound-of .ensures .0) (inside u) (c .before .before .fill .ensures),
+          (c .before .before .fill .last .0) (n .ensures .1) (g .ensures) (u .bound-of .ensures .0) (inside u) (c .before .before .fill .ensures),
     )
 
 pub fill-spectrum-spec : {M : Type 1} → statement M

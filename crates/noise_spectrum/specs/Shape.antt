@@ -35,6 +35,9 @@ pub record Shape : Type 0 where
   pub bins : List Float
   pub seed : ℕ
 
+abbrev pub shaped : List Float → ℕ → Shape
+shaped bins seed = record { bins = bins; seed = seed }
+
 unfoldable pub noiseTurn : ℕ → Shape → ℕ → Shape
 noiseTurn m s i = record {
   bins = put (lo m i) (width m i) (bandNoise (width m i) (s .seed)) (s .bins);

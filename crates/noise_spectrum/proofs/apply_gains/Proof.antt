@@ -3,15 +3,15 @@ use Prim.Native.Nat.{ℕ, _+_, _≤_, _-_, _*_}
 use native.Mathlib.Omega.{arith}
 use lib.ListN.{length, getD}
 use borrow.Author.Needs.{needs}
-use Rattle.noise_block.specs.Shape.{lo, band-in}
-use Rattle.noise_block.specs.Spectrum.{gainOfBand, gainTurn}
+use Rattle.noise_spectrum.specs.Shape.{lo, band-in}
+use Rattle.noise_spectrum.specs.Spectrum.{gainOfBand, gainTurn}
 use Rattle.loops.specs.Fold.{foldRange, range-none}
-use Rattle.noise_block.proofs.Laws.{gains-more}
+use Rattle.noise_spectrum.proofs.Laws.{gains-more}
 use lib.Ieee.{nan, binary32, add}
 use Rattle.band_gain.specs.Gain.{gainOf}
 use borrow.Rule.Slice.PartMut.{midOf, mid-len, same-len-mid}
-use Rattle.noise_block.proofs.spectrum.apply_gains.Statement.{statement}
-use Rattle.noise_block.proofs.spectrum.apply_gains.Tie as tie
+use Rattle.noise_spectrum.proofs.apply_gains.Statement.{statement}
+use Rattle.noise_spectrum.proofs.apply_gains.Tie as tie
 
 abbrev Inv-loop : tie.InvT-loop
 Inv-loop bins₀ m start end energies i₀ bins i =

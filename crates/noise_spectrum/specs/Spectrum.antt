@@ -7,14 +7,14 @@ use native.Mathlib.Omega.{arith}
 use lib.ListN.{length, getD, take, drop, replicate, length-append, length-drop, length-replicate, length-map}
 use lib.Seq.{length-take-le}
 use borrow.Author.Tests.{ltb-true}
-use lib.Dec.{eqb, ltb}
+use lib.Dec.{eqb, ltb, leb}
 use lib.Ieee.{Float, nan, binary32, add}
 use Rattle.loops.specs.Fold.{foldTo, foldRange}
 use Rattle.loops.specs.Part.{put, length-put}
 use Rattle.buffers.specs.Buffers.{zero32, times}
-use Rattle.custom_mode.specs.Mode.{shortBlock, bands, lastEdge, mean}
+use Rattle.custom_mode.specs.Mode.{shortBlock, bands, maxBands, lastEdge, mean}
 use Rattle.band_gain.specs.Gain.{gainOf}
-use Rattle.noise_block.specs.Shape.{lo, width, noiseShape, band-in, lo-in, length-noiseShape}
+use Rattle.noise_spectrum.specs.Shape.{lo, width, Shape, noiseShape, band-in, lo-in, length-noiseShape}
 
 -- the gain of band i, from a channel's 25 energies
 unfoldable pub gainOfBand : List Float → ℕ → Float
@@ -39,6 +39,23 @@ unfoldable pub spectrum : ℕ → ℕ → ℕ → ℕ → ℕ → List Float →
 spectrum m start end downsample seed energies =
     let bins = noiseShape m start seed (replicate (shortBlock * m) zero32) .bins in
     cleared (bound m end downsample) (foldRange (gainTurn m energies) bins start end)
+
+-- the same over any bins, with the seed after all draws
+unfoldable pub spectrumOver : ℕ → ℕ → ℕ → ℕ → ℕ → List Float → List Float → Shape
+spectrumOver m start end downsample seed energies bins =
+    let s = noiseShape m start seed bins in
+    record {
+      bins = cleared (bound m end downsample) (foldRange (gainTurn m energies) (s .bins) start end);
+      seed = s .seed;
+    }
+
+-- a block factor of at most 8, end at least start and at most 21, and a factor of downsampling
+unfoldable pub spectrumFits : ℕ → ℕ → ℕ → ℕ → Bool
+spectrumFits m start end downsample = leb m 8 && (leb start end && (leb end bands && leb 1 downsample))
+
+-- with so many energies and so many bins lent
+unfoldable pub spectrumTakes : ℕ → ℕ → ℕ → ℕ → ℕ → ℕ → Bool
+spectrumTakes m start end downsample energies size = spectrumFits m start end downsample && (eqb energies maxBands && eqb size (shortBlock * m))
 
 pub length-gainTurn : (m : ℕ) (energies bins : List Float) (i : ℕ) → i < bands → m * lastEdge ≤ length bins → length (gainTurn m energies bins i) ≡ length bins
 unfolding gainTurn

@@ -8,7 +8,7 @@ ghost use Prim.Native.Nat.{_*_, _≤_};
 ghost use lib.ListN.{length};
 ghost use Rattle.band_quant.specs.Draw.{draws};
 ghost use Rattle.custom_mode.specs.Mode.{bands, lastEdge};
-ghost use Rattle.noise_block.specs.Shape.{bandNoise, noiseShape};
+ghost use Rattle.noise_spectrum.specs.Shape.{bandNoise, noiseShape};
 
 fn band_noise(part: &mut [f32], seed: u32) -> u32
     ensures { λ r. ⌜ (r ≡ draws (length (now (part .entry))) seed) × (now (part .exit) ≡ bandNoise (length (now (part .entry))) seed) ⌝ }

@@ -1,32 +1,16 @@
 -- What the loops over the bands rest on.
 use mathlib.Core.Path.{_≡_, ap, ap₂, _∙_, sym}
 use mathlib.Core.List.{List, _++_, map}
-use Prim.Native.Nat.{ℕ, _+_, _*_, _-_, _/_, _%_, _^_, _≤_, _<_}
+use Prim.Native.Nat.{ℕ, _+_, _*_, _-_, _/_, _≤_, _<_}
 use native.Mathlib.Omega.{arith}
-use native.Mathlib.Nat.{one-mul}
-use lib.Pow.{pow-pos, pow-mono, shl-exact}
 use lib.ListN.{take, drop}
-use lib.Dec.{lit<}
 use lib.Ieee.{Float}
 use borrow.Author.Tests.{lt-ltb, le-ltb, eq-eqb, ne-eqb}
 use Rattle.loops.specs.Fold.{foldRange, range-more}
 use Rattle.buffers.specs.Buffers.{times}
 use Rattle.band_quant.specs.Draw.{draws}
-use Rattle.noise_block.specs.Shape.{lo, width, bandNoise, Shape, noiseTurn}
-use Rattle.noise_block.specs.Spectrum.{bound, bound-in, gainOfBand, gainTurn}
-
--- ---- the block factor
-
-pub factor-is : (lm : ℕ) → lm ≤ 3 → 1 * 2 ^ lm % 2 ^ 64 ≡ 2 ^ lm
-factor-is lm h = shl-exact {a = 1} 1 lm 64 (lit< tt) (omega arith) ∙ one-mul (2 ^ lm)
-
-pub factor-in : (lm x : ℕ) → lm ≤ 3 → x ≡ 2 ^ lm → (x ≡ 2 ^ lm) × (1 ≤ x) × (x ≤ 8)
-factor-in lm x h e =
-    let p : 0 < 2 ^ lm = pow-pos lm in
-    let q : 2 ^ lm ≤ 2 ^ 3 = pow-mono h in
-    (e, omega arith, omega arith)
-
--- ---- bands
+use Rattle.noise_spectrum.specs.Shape.{lo, width, bandNoise, Shape, noiseTurn}
+use Rattle.noise_spectrum.specs.Spectrum.{bound, bound-in, gainOfBand, gainTurn}
 
 -- one more band of noise: y came back for the part of k bins from a on
 pub noise-more : (m start i k a len s s' : ℕ) (z : Shape) (bins y : List Float)

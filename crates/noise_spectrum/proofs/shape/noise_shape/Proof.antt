@@ -3,12 +3,12 @@ use Prim.Native.Nat.{_+_, _≤_, _-_, _*_}
 use native.Mathlib.Omega.{arith}
 use lib.ListN.{length}
 use borrow.Author.Needs.{needs}
-use Rattle.noise_block.specs.Shape.{lo, band-in, Shape, noiseTurn, noiseShape}
+use Rattle.noise_spectrum.specs.Shape.{lo, band-in, Shape, noiseTurn, noiseShape}
 use Rattle.loops.specs.Fold.{foldRange, range-none}
-use Rattle.noise_block.proofs.Laws.{noise-more}
+use Rattle.noise_spectrum.proofs.Laws.{noise-more}
 use borrow.Rule.Slice.PartMut.{midOf, mid-len, same-len-mid}
-use Rattle.noise_block.proofs.shape.noise_shape.Statement.{statement}
-use Rattle.noise_block.proofs.shape.noise_shape.Tie as tie
+use Rattle.noise_spectrum.proofs.shape.noise_shape.Statement.{statement}
+use Rattle.noise_spectrum.proofs.shape.noise_shape.Tie as tie
 
 abbrev Inv-loop : tie.InvT-loop
 Inv-loop bins₀ m start seed s₀ i₀ bins s i =
