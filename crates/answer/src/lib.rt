@@ -52,8 +52,8 @@ fn write_head(head: &mut [u8], number: u32, kind: u32, samples: usize, pcm: &[f3
 {
     let count = samples as u32;
     let report = [number, kind, count];
-    words::put_words_at(head, 0, &report);
-    words::put_floats_at(head, 3, &pcm[..samples]);
+    put_words::put_words_at(head, 0, &report);
+    put_words::put_floats_at(head, 3, &pcm[..samples]);
     REPORT_BYTES + 4 * samples
 }
 
@@ -98,6 +98,6 @@ pub fn answer_tail(n: usize, head: &mut [u8]) -> usize
         return 0;
     }
     let report = [CUT_SHORT, 0u32, 0u32];
-    words::put_words_at(head, 0, &report);
+    put_words::put_words_at(head, 0, &report);
     REPORT_BYTES
 }

@@ -17,7 +17,7 @@ use Rattle.band_quant.specs.Draw.{draw, draws, draw-word}
 use Rattle.history.specs.History.{half, overlap, channel, Tail, Tails, withTails}
 use Rattle.celt_window.specs.Window.{window}
 use Rattle.post_filter.specs.declared.Filter.{Filter}
-use Rattle.post_filter.specs.Comb.{combAt, combFilterTo, tapGain, preFiltered}
+use Rattle.prefilter.specs.Comb.{combAt, combFilterTo, tapGain, preFiltered}
 use Rattle.plc_lpc.specs.Lpc.{Lpc, crossed, reflection, lpcWith, lpcTurn, lpcTo, celtLpc}
 use Rattle.plc_pad.specs.Past.{past}
 use Rattle.plc_iir.specs.Iir.{iirSum, iirAt, iirTo, celtIir}

@@ -13,7 +13,7 @@ use Rattle.celt_window.specs.Window.{window}
 use Rattle.history.proofs.Parts.{slice-take, TailSized}
 use Rattle.history.specs.History.{half, overlap, Tail, tailList, tailOf}
 use Rattle.post_filter.specs.declared.Filter.{Filter}
-use Rattle.post_filter.specs.Comb.{preFiltered, preFilteredEnd}
+use Rattle.prefilter.specs.Comb.{preFiltered, preFilteredEnd}
 use Rattle.fold.specs.Roll.{movedBack, rolled, length-rolled}
 use Rattle.fold.specs.Fold.{folded, length-folded}
 use Rattle.extrapolate.specs.Extrapolate.{extrapolated, length-extrapolated}

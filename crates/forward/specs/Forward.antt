@@ -9,7 +9,8 @@ use Rattle.loops.specs.Fold.{foldTo}
 use Rattle.loops.specs.Part.{put}
 use Rattle.celt_window.specs.Window.{window}
 use Rattle.history.specs.History.{half, overlap, Tail, tailList, tailOf}
-use Rattle.post_filter.specs.Comb.{combGains, pairAt, preFilteredEnd}
+use Rattle.prefilter.specs.Comb.{pairAt, preFilteredEnd}
+use Rattle.post_filter.specs.Gains.{combGains}
 use Rattle.post_filter.specs.declared.Filter.{Filter}
 use Rattle.fold.specs.Roll.{movedBack}
 use Rattle.fold.specs.Fold.{folded}

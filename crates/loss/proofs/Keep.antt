@@ -15,15 +15,9 @@ use Rattle.settings.specs.Settings.{frame, stereo}
 use Rattle.state.specs.State.{core, noisy, searches}
 use Rattle.state.specs.Refusal.{lagLeast, lagMost, checkLag}
 use Rattle.state.specs.declared.State.{State}
-<<<<<<< HEAD:crates/loss/proofs/Keep.antt
 use Rattle.settings.proofs.Passed.{frame-high}
 use Rattle.state.proofs.Keep.{Ok, lag-range, range-lag}
 use Rattle.pitch_lag.specs.Lag.{lagOf}
-=======
-use Rattle.state.proofs.Passed.{frame-high}
-use Rattle.state.proofs.Keep.{Ok, lag-range, range-lag, noise-searches}
-use Rattle.pitch_lag.specs.Lag.{lagOf}
->>>>>>> rooms-plc:crates/ref_decode/proofs/Keep.antt
 use Rattle.pitch_loss.specs.PitchLoss.{pitchTails}
 use Rattle.pitch_loss.proofs.Tails.{pitches-sized}
 use Rattle.noise_loss.specs.Loss.{noiseTails}

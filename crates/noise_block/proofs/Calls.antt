@@ -1,25 +1,36 @@
 -- What the functions that call others rest on.
 use mathlib.Core.Path.{_≡_, refl, ap, ap₂, _∙_, sym}
-use mathlib.Core.List.{List, [], _∷_, _++_, append-nil}
+use mathlib.Core.List.{List, _∷_, _++_}
 use mathlib.Core.Bool.{Bool, true, false, _&&_}
-use Prim.Native.Nat.{ℕ, zero, suc, _+_, _*_, _-_, _^_, _≤_, _<_}
+use Prim.Native.Nat.{ℕ, zero, suc, _+_, _*_, _%_, _^_, _≤_, _<_}
 use native.Mathlib.Omega.{arith}
-use lib.ListN.{length, take, drop, replicate, length-append, length-drop, length-replicate, drop-of-length-le}
+use native.Mathlib.Nat.{one-mul}
+use lib.Pow.{pow-pos, pow-mono, shl-exact}
+use lib.ListN.{length, take, drop, replicate, length-append, length-replicate}
 use lib.Seq.{length-take-le, take-at}
-use lib.Dec.{leb, ltb, eqb}
+use lib.Dec.{leb, ltb, eqb, lit<}
 use lib.Ieee.{Float}
 use borrow.Author.Tests.{leb-true, ltb-true, eq-eqb, ne-eqb}
-use Rattle.loops.specs.Fold.{foldRange}
 use Rattle.loops.specs.Front.{tab}
 use Rattle.loops.specs.Logic.{and-true, and-first, and-second}
 use Rattle.loops.specs.Reply.{reply, replyIf, reply-yes, reply-no}
 use Rattle.buffers.specs.Buffers.{zero32}
 use Rattle.cosine_circle.specs.Circle.{isFrameSize, size-is-frame}
 use Rattle.mdct.specs.Imdct.{imdct, imdctTakes, imdctReply, takes, reply-outputs}
-use Rattle.noise_block.specs.Shape.{noiseShape}
-use Rattle.noise_block.specs.Spectrum.{gainTurn, bound, cleared, spectrum}
+use Rattle.noise_spectrum.specs.Spectrum.{spectrum}
 use Rattle.noise_block.specs.Block.{windowed, Block, drawnBlock, noiseBlock}
 use Rattle.noise_block.specs.Call.{settingsFit, blockTakes}
+
+-- ---- the block factor
+
+pub factor-is : (lm : ℕ) → lm ≤ 3 → 1 * 2 ^ lm % 2 ^ 64 ≡ 2 ^ lm
+factor-is lm h = shl-exact {a = 1} 1 lm 64 (lit< tt) (omega arith) ∙ one-mul (2 ^ lm)
+
+pub factor-in : (lm x : ℕ) → lm ≤ 3 → x ≡ 2 ^ lm → (x ≡ 2 ^ lm) × (1 ≤ x) × (x ≤ 8)
+factor-in lm x h e =
+    let p : 0 < 2 ^ lm = pow-pos lm in
+    let q : 2 ^ lm ≤ 2 ^ 3 = pow-mono h in
+    (e, omega arith, omega arith)
 
 -- ---- the first k of an array of n zeros, lent and come back as y
 
@@ -48,22 +59,7 @@ module _ (k n : ℕ) (h : k ≤ n) where
     pub back-count : k ≡ length (take k (y ++ drop k (replicate n zero32)))
     back-count = sym (ap length back-is ∙ back-size)
 
--- ---- spectrum and block
-
-pub spectrum-is : (m start end d seed b : ℕ) (energies bins₀ x g y : List Float) → bins₀ ≡ replicate (120 * m) zero32
-    → x ≡ noiseShape m start seed bins₀ .bins → g ≡ foldRange (gainTurn m energies) x start end → b ≡ bound m end d → b ≤ length g
-    → y ≡ replicate (length (take (length g - b) (drop b g))) zero32
-    → take b g ++ (y ++ drop (length g - b) (drop b g)) ≡ spectrum m start end d seed energies
-unfolding spectrum cleared
-spectrum-is m start end d seed b energies bins₀ x g y e₀ ex eg eb h ey =
-    let l = length-drop b g in
-    let n : length (take (length g - b) (drop b g)) ≡ length g - b = length-take-le (length g - b) (drop b g) (omega arith) in
-    let k : drop (length g - b) (drop b g) ≡ [] = drop-of-length-le (drop b g) {i = length g - b} (omega arith) in
-    let w : g ≡ foldRange (gainTurn m energies) (noiseShape m start seed (replicate (120 * m) zero32) .bins) start end =
-    eg ∙ ap (λ z. foldRange (gainTurn m energies) z start end) (ex ∙ ap (λ z. noiseShape m start seed z .bins) e₀) in
-    ap (λ z. take b g ++ z)
-    (ap (λ z. y ++ z) k ∙ append-nil y ∙ ey ∙ ap (λ z. replicate z zero32) n)
-    ∙ ap₂ (λ p q. take p q ++ replicate (length q - p) zero32) eb w
+-- ---- the block
 
 pub block-is : (m start end d seed : ℕ) (energies f xs out u us w : List Float) (took : Bool) → isFrameSize (120 * m) ≡ true → xs ≡ f
     → f ≡ spectrum m start end d seed energies → length f ≡ 120 * m → length out ≡ 2 * (120 * m) → reply took u ≡ imdctReply xs out → us ≡ u

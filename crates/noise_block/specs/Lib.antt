@@ -1,5 +1,3 @@
--- A noise block: shape, spectrum, block.
-pub mod Shape
-pub mod Spectrum
+-- A noise block.
 pub mod Block
 pub mod Call

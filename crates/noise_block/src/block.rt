@@ -4,6 +4,7 @@ use celt_window::window;
 use custom_mode::standard::OVERLAP;
 use custom_mode::standard::SHORT_BLOCK;
 use mdct::imdct::imdct_naive_f32;
+use noise_spectrum::noise_spectrum;
 ghost use mathlib.Core.Path.{_≡_};
 ghost use mathlib.Core.Bool.{true};
 ghost use Prim.Native.Nat.{_+_, _*_, _≤_};
@@ -48,16 +49,8 @@ pub(crate) fn fill_block(
     let k = 2 * n;
     let mut bins = [0.0f32; FRAME_MOST];
     let mut u = [0.0f32; 2 * FRAME_MOST];
-    let s = super::spectrum::fill_spectrum(
-        &mut bins[..n],
-        m,
-        start,
-        end,
-        downsample,
-        seed,
-        energies,
-    );
+    let drawn = noise_spectrum(&mut bins[..n], m, start, end, downsample, seed, energies);
     imdct_naive_f32(&bins[..n], &mut u[..k]);
     window_outputs(block, &u[..k], n);
-    s
+    drawn.seed
 }

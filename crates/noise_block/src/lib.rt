@@ -1,4 +1,4 @@
-// A noise block: noise at unit energy in each band, times the band's gain, through the inverse transform and the window.
+// A noise block: the spectrum of a channel's noise through the inverse transform and the window.
 use custom_mode::standard::BANDS;
 use custom_mode::standard::MAX_BANDS;
 use custom_mode::standard::OVERLAP;
@@ -11,8 +11,6 @@ ghost use Rattle.noise_block.specs.Block.{drawnBlock, noiseBlock};
 ghost use Rattle.noise_block.specs.Call.{settingsFit, blockTakes};
 
 mod block;
-mod shape;
-mod spectrum;
 
 const LM_MOST: usize = 3;
 

@@ -19,7 +19,7 @@ use Rattle.celt_window.specs.Window.{window}
 use Rattle.plc_iir_pair.specs.Pair.{Channels, channels}
 use Rattle.post_filter.specs.declared.Filter.{Filter}
 use Rattle.post_filter.specs.Limits.{filterFits}
-use Rattle.post_filter.specs.Comb.{preFiltered, length-preFiltered, preFilteredEnd, prefilterTakes}
+use Rattle.prefilter.specs.Comb.{preFiltered, length-preFiltered, preFilteredEnd, prefilterTakes}
 use Rattle.settings.specs.declared.Settings.{Settings}
 use Rattle.settings.specs.Settings.{frame, stereo, checkSettings}
 use Rattle.state.specs.Refusal.{lagLeast, lagMost}

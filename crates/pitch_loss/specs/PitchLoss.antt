@@ -10,7 +10,7 @@ use Rattle.history.specs.History.{overlap, whole, Tail, Tails}
 use Rattle.celt_window.specs.Window.{window}
 use Rattle.post_filter.specs.declared.Filter.{Filter}
 use Rattle.post_filter.specs.Limits.{filterFits}
-use Rattle.post_filter.specs.Comb.{preFiltered}
+use Rattle.prefilter.specs.Comb.{preFiltered}
 use Rattle.settings.specs.declared.Settings.{Settings}
 use Rattle.settings.specs.Settings.{checkSettings}
 use Rattle.state.specs.Refusal.{lagLeast, lagMost}

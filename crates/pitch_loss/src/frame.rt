@@ -18,5 +18,5 @@ pub(crate) fn take_in(t: &mut [f32], n: usize, e: &[f32], filter: Filter)
     let end = n + OVERLAP;
     fold::roll(&mut t[..HALF], &e[..n]);
     fold::fold_tail(&mut t[HALF..], &e[n..end]);
-    post_filter::prefilter::prefilter(t, filter);
+    prefilter::prefilter(t, filter);
 }

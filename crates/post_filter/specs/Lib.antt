@@ -1,3 +1,3 @@
--- The post-filter's setting, its limits, and the pre-filter of the overlap.
+-- The post-filter's setting, its limits, and the factors of its taps.
 pub mod Limits
-pub mod Comb
+pub mod Gains

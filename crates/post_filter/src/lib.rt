@@ -1,10 +1,7 @@
-// The post-filter's setting, and the pre-filter that undoes ahead what it will do to the overlap.
+// The post-filter's setting: its limits, and the factors of its taps.
 ghost use mathlib.Core.Path.{_≡_};
 ghost use Rattle.post_filter.specs.Limits.{filterFits};
-ghost use Rattle.post_filter.specs.Comb.{combGains};
-
-mod comb;
-pub mod prefilter;
+ghost use Rattle.post_filter.specs.Gains.{combGains};
 
 // A setting: the gain, the pitch period and which row of tap factors.
 pub struct Filter {

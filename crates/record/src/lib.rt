@@ -118,8 +118,8 @@ fn put_energies(b: &mut [u8], coarse: [f32; 50], background: [f32; 50])
     requires { ⌜ 444 ≤ length (now b) ⌝ }
     ensures { λ _. ⌜ now (b .exit) ≡ put 44 400 (floatsBytes coarse ++ floatsBytes background) (now (b .entry)) ⌝ }
 {
-    words::put_floats_at(b, COARSE, &coarse);
-    words::put_floats_at(b, BACKGROUND, &background);
+    put_words::put_floats_at(b, COARSE, &coarse);
+    put_words::put_floats_at(b, BACKGROUND, &background);
 }
 
 // The bytes of the memories and the predictor.
@@ -127,8 +127,8 @@ fn put_memories(b: &mut [u8], memories: [f32; 2], predictor: [f32; 48])
     requires { ⌜ 644 ≤ length (now b) ⌝ }
     ensures { λ _. ⌜ now (b .exit) ≡ put 444 200 (floatsBytes memories ++ floatsBytes predictor) (now (b .entry)) ⌝ }
 {
-    words::put_floats_at(b, MEMORIES, &memories);
-    words::put_floats_at(b, PREDICTOR, &predictor);
+    put_words::put_floats_at(b, MEMORIES, &memories);
+    put_words::put_floats_at(b, PREDICTOR, &predictor);
 }
 
 // The bytes of a state ahead of its history.
@@ -137,7 +137,7 @@ fn write_state(b: &mut [u8], s: State)
     ensures { λ _. ⌜ now (b .exit) ≡ front (stateBytes s) (now (b .entry)) 644 ⌝ }
 {
     let head = head_words(s);
-    words::put_words_at(b, 0, &head);
+    put_words::put_words_at(b, 0, &head);
     let coarse = s.coarse;
     let background = s.background;
     put_energies(b, coarse, background);
@@ -158,6 +158,6 @@ pub fn write_record(b: &mut [u8], s: State, history: &[f32]) -> bool
         return false;
     }
     write_state(b, s);
-    words::put_floats_at(b, HISTORY, history);
+    put_words::put_floats_at(b, HISTORY, history);
     true
 }

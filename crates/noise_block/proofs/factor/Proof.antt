@@ -1,6 +1,6 @@
 use Prim.Native.Nat.{_-_}
 use borrow.Author.Needs.{needs}
-use Rattle.noise_block.proofs.Laws.{factor-is, factor-in}
+use Rattle.noise_block.proofs.Calls.{factor-is, factor-in}
 use Rattle.noise_block.proofs.factor.Statement.{statement}
 use Rattle.noise_block.proofs.factor.Tie as tie
 

@@ -1,5 +1,5 @@
 use mathlib.Core.Path.{ap, sym}
-use Rattle.post_filter.specs.Comb.{combGains}
+use Rattle.post_filter.specs.Gains.{combGains}
 use Rattle.post_filter.proofs.Laws.{comb-last}
 use Rattle.post_filter.proofs.comb_gains.Statement.{statement}
 use Rattle.post_filter.proofs.comb_gains.Tie as tie

@@ -3,9 +3,11 @@ use mathlib.Core.Path.{_≡_, ap, _∙_}
 use mathlib.Core.List.{List}
 use Prim.Native.Nat.{ℕ, _+_, _*_, _/_, _%_, _≤_, _<_, _-_}
 use native.Mathlib.Omega.{arith}
-use native.Mathlib.Nat.{mod-lt}
+use native.Mathlib.Nat.{mod-lt, le-antisymm}
 use lib.ListN.{length, getD, length-set}
 use borrow.Author.Needs.{needs}
+use mir.Syntax.{w64}
+use mir.Val.{Fits}
 use lib.Ieee.{Float, nan, binary64, ofBits, add}
 use Rattle.loops.specs.Front.{front, tab, tab-none, tab-more, tab-same, length-tab, getD-tab}
 use Rattle.loops.specs.Sum.{sumTo, sum-none, sum-more}
@@ -58,6 +60,10 @@ n c = length (entry c .args .x .now)
 
 abbrev t : tie.In-loop2 Inv-loop2 μ-loop2 Inv-loop μ-loop → ℕ
 t c = entry c .args .t + c .before .loop2 .j
+
+-- the bytes of eight places
+bytes-fit : (j : ℕ) → j < 8 → Fits w64 (j * 8)
+bytes-fit j h = record { fits = omega arith }
 
 module _ (c : tie.In-loop2 Inv-loop2 μ-loop2 Inv-loop μ-loop) where
   size : Size (n c)
@@ -120,7 +126,7 @@ shared-slice-read-f32-to-f64 :
 shared-slice-read-f32-to-f64 c = search needs
 
 f32-to-f64-requires : tie.Need-f32-to-f64-requires Inv-loop2 μ-loop2 Inv-loop μ-loop
-f32-to-f64-requires c κs = search needs
+f32-to-f64-requires c κs = tt
 
 loop2-holds : tie.Need-loop2-holds Inv-loop2 μ-loop2 Inv-loop μ-loop
 loop2-holds c =
@@ -128,16 +134,16 @@ loop2-holds c =
     (search needs, ap length (l .inv .1) ∙ length-tab _ 8, ap length (l .inv .2) ∙ length-tab _ 8, tab-none _ _, tab-none _ _)
 
 mul-i : tie.Need-mul-i Inv-loop2 μ-loop2 Inv-loop μ-loop
-mul-i c = search needs
+mul-i c = bytes-fit (c .before .loop2 .j) (c .loop2-test .taken)
 
 array-read-i : tie.Need-array-read-i Inv-loop2 μ-loop2 Inv-loop μ-loop
-array-read-i c = search needs
+array-read-i c = c .loop2-test .taken
 
 mul-acc : tie.Need-mul-acc Inv-loop2 μ-loop2 Inv-loop μ-loop
-mul-acc c = search needs
+mul-acc c = mul-i c
 
 array-read-acc : tie.Need-array-read-acc Inv-loop2 μ-loop2 Inv-loop μ-loop
-array-read-acc c = search needs
+array-read-acc c = c .loop2-test .taken
 
 mul-acc-2 : tie.Need-mul-acc-2 Inv-loop2 μ-loop2 Inv-loop μ-loop
 mul-acc-2 c = omega (arith, at-less c, at-most _ (size c))
@@ -186,7 +192,8 @@ loop2-again c =
     ∙ ap (λ z. (z + step d) % (4 * n d)) (at-is d)
     ∙ ap (λ z. (place (n d) (t d) (l .k) + z) % (4 * n d)) (step-is d)
     ∙ place-more (n d) (t d) (l .k) (omega (arith, at-least _ (size d))) in
-    let term = term-is (n d) _ _ _ _ _ _ (size d) (entry d .pre .0) (d .before .before .f32-to-f64 .ensures) (at-is d) in
+    let term =
+    term-is (n d) (a .circle .now) (a .x .now) (t d) (l .k) (at d) (d .before .before .f32-to-f64 .result) (size d) (entry d .pre .0) (d .before .before .f32-to-f64 .ensures) (at-is d) in
     let so-far = lane (sums (n d) (a .x .now) (a .t) (l .k)) _ nan _ _ 8 _ (l2 .inv .4) (l .inv .2) (search needs) in (
       search needs,
       simp length-set (search needs),
@@ -206,7 +213,7 @@ loop-again : tie.Need-loop-again Inv-loop2 μ-loop2 Inv-loop μ-loop
 loop-again c =
     let l = c .before .before .before .before .before .loop in
     let l2 = c .before .loop2 in
-    let e : l2 .j ≡ 8 = search needs in
+    let e : l2 .j ≡ 8 = le-antisymm (l2 .inv .0) (c .loop2-test .left) in
     (search needs, lanes-all _ _ 0 _ _ 8 _ (l2 .inv .3) (l .inv .1) e, lanes-all _ _ nan _ _ 8 _ (l2 .inv .4) (l .inv .2) e)
 
 returns : tie.Need-returns Inv-loop2 μ-loop2 Inv-loop μ-loop
@@ -214,7 +221,7 @@ unfolding imdctSum
 returns c =
     let l = c .before .loop in
     let a = c .before .before .before .before .before .args in
-    let e : l .k ≡ length (a .x .now) = search needs in
+    let e : l .k ≡ length (a .x .now) = le-antisymm (l .inv .0) (c .loop-test .left) in
     l .inv .2 ∙ ap (λ z. tab (sums (length (a .x .now)) (a .x .now) (a .t) z) 8) e
 
 pub eight-spec : {M : Type 1} → statement M

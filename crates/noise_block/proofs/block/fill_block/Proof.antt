@@ -2,6 +2,7 @@ use mathlib.Core.Path.{sym}
 use Prim.Native.Nat.{_≤_, _-_, _*_}
 use native.Mathlib.Omega.{arith}
 use borrow.Author.Needs.{needs}
+use Rattle.noise_spectrum.proofs.Calls.{Fits, spectrum-left}
 use Rattle.noise_block.specs.Block.{noiseBlock}
 use Rattle.noise_block.proofs.Calls.{lent-zeros, lent-count, back-size, back-is, back-in, back-count, block-is}
 use Rattle.noise_block.proofs.block.fill_block.Statement.{statement}
@@ -25,25 +26,23 @@ mul-k c = search needs
 array-borrow-prefix-bins : tie.Need-array-borrow-prefix-bins
 array-borrow-prefix-bins c = search needs
 
-slice-aggregate-fill-spectrum : tie.Need-slice-aggregate-fill-spectrum
-slice-aggregate-fill-spectrum c =
+slice-aggregate-noise-spectrum : tie.Need-slice-aggregate-noise-spectrum
+slice-aggregate-noise-spectrum c =
     lent-count (120 * c .before .before .before .args .m) 960 (small (c .before .before .before))
 
-fill-spectrum-requires : tie.Need-fill-spectrum-requires
-fill-spectrum-requires c κs =
-    let p = c .before .before .before .pre in
-    (p .1, p .3, p .4, p .5, lent-zeros (120 * c .before .before .before .args .m) 960 (small (c .before .before .before)), p .7)
+noise-spectrum-requires : tie.Need-noise-spectrum-requires
+noise-spectrum-requires c κs = tt
 
 array-share-prefix-bins : tie.Need-array-share-prefix-bins
 array-share-prefix-bins c =
     let o = c .before .before .before .before .before in
-    let f = c .before .fill-spectrum in
+    let f = c .before .noise-spectrum in
     back-in (120 * o .args .m) 960 (small o) (f .last .0) (f .kept .0)
 
 slice-aggregate-imdct-naive-f32 : tie.Need-slice-aggregate-imdct-naive-f32
 slice-aggregate-imdct-naive-f32 c =
     let o = c .before .before .before .before .before .before in
-    let f = c .before .before .fill-spectrum in
+    let f = c .before .before .noise-spectrum in
     back-count (120 * o .args .m) 960 (small o) (f .last .0) (f .kept .0)
 
 array-borrow-prefix-u : tie.Need-array-borrow-prefix-u
@@ -84,13 +83,17 @@ unfolding noiseBlock
 returns c =
     let o = c .before .before .before .before .before .before .before .before .before .before .before .before .before .before in
     let a = o .args in
-    let f = c .before .before .before .before .before .before .before .before .before .before .fill-spectrum in
+    let f = c .before .before .before .before .before .before .before .before .before .before .noise-spectrum in
     let i = c .before .before .before .before .before .before .imdct-naive-f32 in
-    let n = 120 * a .m in (
-      f .ensures .0,
+    let n = 120 * a .m in
+    let fit : Fits (a .m) (a .start) (a .end) (a .downsample) = record { small = o .pre .1; some = o .pre .3; last = o .pre .4; every = o .pre .5 } in
+    let s =
+    spectrum-left (a .m) (a .start) (a .end) (a .downsample) (a .seed) (a .energies .now) _ fit (o .pre .7) (sym (lent-count n 960 (small o))) (f .ensures)
+    (lent-zeros n 960 (small o)) in (
+      s .1,
       block-is (a .m) (a .start) (a .end) (a .downsample) (a .seed) (a .energies .now) (f .last .0) _ _ (i .last .1 .0) _
           (c .before .before .window-outputs .last .0) (i .result)
-          (o .pre .2) (back-is n 960 (small o) (f .last .0) (f .kept .0)) (f .ensures .1) (back-size n 960 (small o) (f .last .0) (f .kept .0))
+          (o .pre .2) (back-is n 960 (small o) (f .last .0) (f .kept .0)) (s .0) (back-size n 960 (small o) (f .last .0) (f .kept .0))
           (sym (lent-count (2 * n) 1920 (twice o))) (i .ensures)
           (back-is (2 * n) 1920 (twice o) (i .last .1 .0) (i .kept .1 .0)) (c .before .before .window-outputs .ensures),
     )
@@ -102,8 +105,8 @@ fill-block-spec =
     mul-n
     mul-k
     array-borrow-prefix-bins
-    slice-aggregate-fill-spectrum
-    fill-spectrum-requires
+    slice-aggregate-noise-spectrum
+    noise-spectrum-requires
     array-share-prefix-bins
     slice-aggregate-imdct-naive-f32
     array-borrow-prefix-u

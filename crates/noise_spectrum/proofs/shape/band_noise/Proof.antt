@@ -1,0 +1,27 @@
+use mathlib.Core.Path.{ap, _∙_}
+use Prim.Native.Nat.{_-_}
+use borrow.Author.Needs.{needs}
+use Rattle.buffers.specs.Buffers.{one32}
+use Rattle.band_quant.specs.Renormalise.{renormaliseVector}
+use Rattle.noise_spectrum.specs.Shape.{bandNoise}
+use Rattle.noise_spectrum.proofs.shape.band_noise.Statement.{statement}
+use Rattle.noise_spectrum.proofs.shape.band_noise.Tie as tie
+
+noise-fill-requires : tie.Need-noise-fill-requires
+noise-fill-requires c κs = search needs
+
+renormalise-vector-requires : tie.Need-renormalise-vector-requires
+renormalise-vector-requires c κs = search needs
+
+same-length : tie.Need-same-length
+same-length c = search needs
+
+returns : tie.Need-returns
+unfolding bandNoise
+returns c =
+    let f = c .before .before .before .before .before .before .noise-fill in
+    (f .ensures .0, c .before .before .renormalise-vector .ensures ∙ ap (λ z. renormaliseVector z one32) (f .ensures .1))
+
+pub band-noise-spec : {M : Type 1} → statement M
+band-noise-spec =
+    tie.close (tie.spec noise-fill-requires renormalise-vector-requires same-length returns)

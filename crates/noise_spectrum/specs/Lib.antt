@@ -1,0 +1,3 @@
+-- The spectrum of a noise block: shape, spectrum.
+pub mod Shape
+pub mod Spectrum

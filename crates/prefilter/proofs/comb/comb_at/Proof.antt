@@ -1,0 +1,83 @@
+use mathlib.Core.Path.{refl}
+use borrow.Author.Needs.{needs}
+use Rattle.prefilter.specs.Comb.{combAt, pairAt}
+use Rattle.prefilter.proofs.comb.comb_at.Statement.{statement}
+use Rattle.prefilter.proofs.comb.comb_at.Tie as tie
+
+sub-a : tie.Need-sub-a
+sub-a c = search needs
+
+mul-result : tie.Need-mul-result
+mul-result c = search needs
+
+shared-slice-read-result : tie.Need-shared-slice-read-result
+shared-slice-read-result c = search needs
+
+mul-result-2 : tie.Need-mul-result-2
+mul-result-2 c = search needs
+
+shared-slice-read-result-2 : tie.Need-shared-slice-read-result-2
+shared-slice-read-result-2 c = search needs
+
+sub-result : tie.Need-sub-result
+sub-result c = search needs
+
+mul-result-3 : tie.Need-mul-result-3
+mul-result-3 c = search needs
+
+shared-slice-read-result-3 : tie.Need-shared-slice-read-result-3
+shared-slice-read-result-3 c = search needs
+
+add-result : tie.Need-add-result
+add-result c = search needs
+
+mul-result-4 : tie.Need-mul-result-4
+mul-result-4 c = search needs
+
+shared-slice-read-result-4 : tie.Need-shared-slice-read-result-4
+shared-slice-read-result-4 c = search needs
+
+sub-result-2 : tie.Need-sub-result-2
+sub-result-2 c = search needs
+
+mul-result-5 : tie.Need-mul-result-5
+mul-result-5 c = search needs
+
+shared-slice-read-result-5 : tie.Need-shared-slice-read-result-5
+shared-slice-read-result-5 c = search needs
+
+add-result-2 : tie.Need-add-result-2
+add-result-2 c = search needs
+
+mul-result-6 : tie.Need-mul-result-6
+mul-result-6 c = search needs
+
+shared-slice-read-result-6 : tie.Need-shared-slice-read-result-6
+shared-slice-read-result-6 c = search needs
+
+returns : tie.Need-returns
+unfolding combAt pairAt
+returns c = refl
+
+pub comb-at-spec : {M : Type 1} → statement M
+comb-at-spec =
+    tie.close
+    (tie.spec
+    sub-a
+    mul-result
+    shared-slice-read-result
+    mul-result-2
+    shared-slice-read-result-2
+    sub-result
+    mul-result-3
+    shared-slice-read-result-3
+    add-result
+    mul-result-4
+    shared-slice-read-result-4
+    sub-result-2
+    mul-result-5
+    shared-slice-read-result-5
+    add-result-2
+    mul-result-6
+    shared-slice-read-result-6
+    returns)

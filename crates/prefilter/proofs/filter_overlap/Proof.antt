@@ -1,0 +1,71 @@
+use mathlib.Core.Path.{_≡_, refl, ap, _∙_}
+use mathlib.Core.List.{List}
+use Prim.Native.Nat.{ℕ}
+use lib.Ieee.{Float}
+use borrow.Author.Needs.{needs}
+use Rattle.prefilter.specs.Comb.{combFilterTo, tapGain}
+use Rattle.prefilter.proofs.Laws.{pre-skip, pre-put}
+use Rattle.prefilter.proofs.filter_overlap.Statement.{statement}
+use Rattle.prefilter.proofs.filter_overlap.Tie as tie
+
+returns : tie.Need-returns
+returns c = pre-skip _ _ (c .if1 .taken)
+
+cast-period : tie.Need-cast-period
+cast-period c = search needs
+
+slice-aggregate-comb-filter-to : tie.Need-slice-aggregate-comb-filter-to
+slice-aggregate-comb-filter-to c = search needs
+
+tap-gains-requires : tie.Need-tap-gains-requires
+tap-gains-requires c κs = search needs
+
+comb-filter-to-requires : tie.Need-comb-filter-to-requires
+comb-filter-to-requires c κs = search needs
+
+sub-copy : tie.Need-sub-copy
+sub-copy c = search needs
+
+part-copy-start : tie.Need-part-copy-start
+part-copy-start c = search needs
+
+part-copy-end : tie.Need-part-copy-end
+part-copy-end c = search needs
+
+slice-aggregate-copy : tie.Need-slice-aggregate-copy
+slice-aggregate-copy c = search needs
+
+copy-requires : tie.Need-copy-requires
+copy-requires c κs = search needs
+
+same-length : tie.Need-same-length
+same-length c = search needs
+
+returns-2 : tie.Need-returns-2
+returns-2 c =
+    let a = c .before .before .before .before .before .before .before .before .before .before .before .before .before .before .args in
+    let g = c .before .before .before .before .before .before .before .tap-gains in
+    pre-put (a .f) (a .t .now) _ _ _ (g .result .g0) (g .result .g1) (g .result .g2)
+    (c .before .before .before .before .before .before .before .before .before .before .before .if1 .left)
+    (search needs)
+    refl
+    (g .ensures)
+    (c .before .before .before .before .before .before .comb-filter-to .ensures)
+    (c .before .before .copy .ensures)
+
+pub filter-overlap-spec : {M : Type 1} → statement M
+filter-overlap-spec =
+    tie.close
+    (tie.spec
+    returns
+    cast-period
+    slice-aggregate-comb-filter-to
+    tap-gains-requires
+    comb-filter-to-requires
+    sub-copy
+    part-copy-start
+    part-copy-end
+    slice-aggregate-copy
+    copy-requires
+    same-length
+    returns-2)

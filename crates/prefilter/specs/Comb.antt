@@ -1,0 +1,85 @@
+-- The pre-filter of the overlap, by the taps one pitch period back.
+use mathlib.Core.Path.{_≡_, refl, _∙_, ap}
+use Prim.Native.Nat.{ℕ, _+_, _-_}
+use native.Mathlib.Omega.{arith}
+use mathlib.Core.Bool.{Bool, true, false, cond, _&&_}
+use mathlib.Core.List.{List, _++_}
+use lib.ListN.{getD, length, take, drop, length-append, length-take, length-drop}
+use lib.Dec.{eqb}
+use lib.Ieee.{Float, nan, binary32, add, mul, neg, eq, ofBits}
+use Rattle.loops.specs.Front.{tab, length-tab}
+use Rattle.history.specs.History.{half, overlap}
+use Rattle.post_filter.specs.declared.Filter.{Filter}
+use Rattle.post_filter.specs.Limits.{filterFits}
+use Rattle.post_filter.specs.Gains.{combGains}
+
+-- a tap: the negated gain times the tapset's factor k
+unfoldable pub tapGain : Filter → ℕ → Float
+tapGain f k = mul binary32 (neg (f .gain)) (getD (combGains (f .tapset)) k nan)
+
+-- the two samples k away from a
+unfoldable pub pairAt : List Float → ℕ → ℕ → Float
+pairAt x a k = add binary32 (getD x (a - k) nan) (getD x (a + k) nan)
+
+-- x[i], and then tap by tap, one period t back: ((x[i] + g0 × x[a]) + g1 × (x[a - 1] + x[a + 1])) + g2 × (x[a - 2] + x[a + 2])
+unfoldable pub combAt : List Float → ℕ → ℕ → Float → Float → Float → Float
+combAt x i t g0 g1 g2 =
+    let a = i - t in
+    add binary32
+    (add binary32 (add binary32 (getD x i nan) (mul binary32 g0 (getD x a nan))) (mul binary32 g1 (pairAt x a 1)))
+    (mul binary32 g2 (pairAt x a 2))
+
+-- the overlap after the first 1,024, each sample from x as it was
+unfoldable pub combFilterTo : List Float → ℕ → Float → Float → Float → List Float
+combFilterTo x t g0 g1 g2 = tab (λ (i : ℕ). combAt x (half + i) t g0 g1 g2) overlap
+
+pub length-combFilterTo : (x : List Float) (t : ℕ) (g0 g1 g2 : Float) → length (combFilterTo x t g0 g1 g2) ≡ overlap
+unfolding combFilterTo
+length-combFilterTo x t g0 g1 g2 = length-tab _ overlap
+
+-- the overlap behind the newest samples; a gain of zero, of either sign, leaves it, a NaN does not
+unfoldable pub preFiltered : Filter → List Float → List Float → List Float
+preFiltered f new over =
+    cond (eq (f .gain) (ofBits binary32 0)) over (combFilterTo (new ++ over) (f .period) (tapGain f 0) (tapGain f 1) (tapGain f 2))
+
+-- both zeros skip it; a NaN and a gain below zero do not
+module _ (f : Filter) (new over : List Float) where
+  filtered : List Float
+  filtered = combFilterTo (new ++ over) (f .period) (tapGain f 0) (tapGain f 1) (tapGain f 2)
+
+  by-gain : (g : Float) (b : Bool) → eq g (ofBits binary32 0) ≡ b → f .gain ≡ g → preFiltered f new over ≡ cond b over filtered
+  unfolding preFiltered filtered
+  by-gain g b e q = ap (λ z. cond z over filtered) (ap (λ z. eq z (ofBits binary32 0)) q ∙ e)
+
+  pub zero-skips : f .gain ≡ ofBits binary32 0 → preFiltered f new over ≡ over
+  unfolding eq ofBits
+  zero-skips q = by-gain (ofBits binary32 0) true refl q
+
+  pub minus-zero-skips : f .gain ≡ neg (ofBits binary32 0) → preFiltered f new over ≡ over
+  unfolding eq neg ofBits
+  minus-zero-skips q = by-gain (neg (ofBits binary32 0)) true refl q
+
+  pub nan-filters : f .gain ≡ nan → preFiltered f new over ≡ combFilterTo (new ++ over) (f .period) (tapGain f 0) (tapGain f 1) (tapGain f 2)
+  unfolding eq filtered
+  nan-filters q = by-gain nan false refl q
+
+  pub minus-one-filters : f .gain ≡ neg (ofBits binary32 0x3f80_0000)
+      → preFiltered f new over ≡ combFilterTo (new ++ over) (f .period) (tapGain f 0) (tapGain f 1) (tapGain f 2)
+  unfolding eq neg ofBits filtered
+  minus-one-filters q = by-gain (neg (ofBits binary32 0x3f80_0000)) false refl q
+
+pub length-preFiltered : (f : Filter) (new over : List Float) → length over ≡ overlap → length (preFiltered f new over) ≡ overlap
+unfolding preFiltered
+length-preFiltered f new over l = go (eq (f .gain) (ofBits binary32 0))
+  where
+    go : (b : Bool) → length (cond b over (combFilterTo (new ++ over) (f .period) (tapGain f 0) (tapGain f 1) (tapGain f 2))) ≡ overlap
+    go true = l
+    go false = length-combFilterTo _ _ _ _ _
+
+-- the newest 1,024 as they were, and the overlap behind them
+unfoldable pub preFilteredEnd : Filter → List Float → List Float
+preFilteredEnd f t = take half t ++ preFiltered f (take half t) (drop half t)
+
+-- how many samples, which setting
+unfoldable pub prefilterTakes : ℕ → Filter → Bool
+prefilterTakes n f = eqb n (half + overlap) && filterFits f
