@@ -1,9 +1,9 @@
 // Op 801: one channel's pitch loss.
 use crate::streams;
 use float_bits::words::f32_from_word;
-use pitch_predictor::fit_predictor;
 use pitch_loss::Concealed;
 use pitch_loss::pitch_loss;
+use pitch_predictor::fit_predictor;
 use post_filter::Filter;
 use state::Settings;
 

@@ -11,8 +11,8 @@ ghost use Rattle.ref_decode.specs.Loss.{pitchMade, tailsByPitch};
 use crate::Made;
 use crate::PITCH_KIND;
 use pitch_lag::find_lag;
-use pitch_predictor::fit_predictor;
 use pitch_loss::pitch_loss;
+use pitch_predictor::fit_predictor;
 use state::State;
 
 // The lag: searched at the first loss, and carried after it.

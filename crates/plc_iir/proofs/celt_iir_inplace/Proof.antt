@@ -27,9 +27,11 @@ remember-requires : tie.Need-remember-requires Inv-loop μ-loop
 remember-requires c κs = search needs
 
 loop-holds : tie.Need-loop-holds Inv-loop μ-loop
-loop-holds c = let a = c .before .before .before .before .before .before .args in
-    (search needs, filtered-none (a .den .now) (a .mem .now) (a .buf .now) (c .before .remember .last .0) (search needs)
-    (remembers-all (a .mem .now) 1224 (ofBits binary32 0) (c .before .remember .ensures) (search needs) (search needs)))
+loop-holds c = let a = c .before .before .before .before .before .before .args in (
+  search needs,
+  filtered-none (a .den .now) (a .mem .now) (a .buf .now) (c .before .remember .last .0) (search needs)
+      (remembers-all (a .mem .now) 1224 (ofBits binary32 0) (c .before .remember .ensures) (search needs) (search needs)),
+)
 
 slice-aggregate-less-taps : tie.Need-slice-aggregate-less-taps Inv-loop μ-loop
 slice-aggregate-less-taps c = search needs
