@@ -19,8 +19,8 @@ use Rattle.plc_lag_window.specs.LagWindow.{lagFactor, lagWindowed, lagValue, la
 use Rattle.plc_lpc.specs.Lpc.{lpcTo, celtLpc, length-celtLpc}
 use Rattle.plc_pad.specs.Past.{past}
 use Rattle.plc_fir.specs.Fir.{firAt, celtFir, length-celtFir}
-use Rattle.plc_downsample.specs.Downsample.{half32, tilt, smoothedAt, smoothed, smoothedPair, dampingTo, damped}
-use Rattle.plc_downsample.specs.Downsample.{whitener, whitenLp, pitchDownsample, pitchDownsamplePair}
+use Rattle.plc_whiten.specs.Whiten.{tilt, dampingTo, damped, whitener, whitenLp}
+use Rattle.plc_downsample.specs.Downsample.{half32, smoothedAt, smoothed, smoothedPair, pitchDownsample, pitchDownsamplePair}
 use Rattle.plc_search.specs.Offset.{fold-holds}
 use Rattle.plc_search.specs.Search.{pitchSearch}
 use Rattle.lag_laws.specs.NoPitch.{SignedZero, zero-mul, zero-add, add-nan, silent, all-nan}

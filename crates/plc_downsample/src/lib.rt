@@ -3,21 +3,15 @@ ghost use mathlib.Core.Path.{_≡_};
 ghost use Prim.Native.Nat.{_<_};
 ghost use lib.ListN.{length};
 ghost use Rattle.loops.specs.Reply.{reply, replyIf};
-ghost use Rattle.plc_downsample.specs.Downsample.{smoothedAt, smoothed, smoothedPair, damped, whitener, whitenLp};
+ghost use Rattle.plc_downsample.specs.Downsample.{smoothedAt, smoothed, smoothedPair};
 ghost use Rattle.plc_downsample.specs.Downsample.{downsampleTakes, pitchDownsample, downsamplePairTakes, pitchDownsamplePair};
-use plc_lag_window::lag_window;
+use plc_whiten::whiten;
 
 // The samples of a channel's history.
 const SAMPLES: usize = 2048;
 
 // The samples at half rate.
 const HALF: usize = 1024;
-
-// What each coefficient of the predictor is damped by, once more than the one before it.
-const DAMPING: f32 = 0.9;
-
-// The zero that the whitening filter has besides.
-const TILT: f32 = 0.8;
 
 // Whether the samples were downsampled.
 pub struct Downsampled {
@@ -53,45 +47,6 @@ fn smooth_pair(x0: &[f32], x1: &[f32], x_lp: &mut [f32])
     for i in 0..HALF {
         x_lp[i] = smooth_at(x0, i) + smooth_at(x1, i);
     }
-}
-
-// Coefficient k times 0.9 to the power k + 1.
-fn damp(lpc: &mut [f32])
-    ensures { λ _. ⌜ now (lpc .exit) ≡ damped (now (lpc .entry)) ⌝ }
-{
-    let n = lpc.len();
-    let mut factor = 1.0f32;
-    for k in 0..n {
-        factor = factor * DAMPING;
-        lpc[k] = lpc[k] * factor;
-    }
-}
-
-// The damped predictor of order 4.
-fn whitening(lp: &[f32; 1024]) -> [f32; 4]
-    ensures { λ r. ⌜ r ≡ whitener (now (lp .entry)) ⌝ }
-{
-    let mut ac = plc::autocorr::celt_autocorr(lp);
-    lag_window(&mut ac);
-    let mut lpc = [0.0f32; 4];
-    plc_lpc::celt_lpc(&mut lpc, &ac);
-    damp(&mut lpc);
-    lpc
-}
-
-// Whitens the samples by their own predictor.
-fn whiten(x_lp: &mut [f32])
-    requires { ⌜ length (now «x_lp») ≡ 1024 ⌝ }
-    ensures { λ _. ⌜ now («x_lp» .exit) ≡ whitenLp (now («x_lp» .entry)) ⌝ }
-{
-    let mut lp = [0.0f32; HALF];
-    buffers::copy(&mut lp, x_lp);
-    let num = whitening(&lp);
-    let mem = [0.0f32; 4];
-    plc_fir::celt_fir_inplace(x_lp, &num, &mem);
-    let tilt = [TILT; 1];
-    let mem1 = [0.0f32; 1];
-    plc_fir::celt_fir_inplace(x_lp, &tilt, &mem1);
 }
 
 // Refused, with nothing changed, unless x has 2,048 samples and x_lp 1,024.

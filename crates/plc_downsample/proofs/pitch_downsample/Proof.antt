@@ -1,7 +1,6 @@
 use Rattle.loops.specs.Reply.{reply-yes, reply-no}
-use Rattle.plc_downsample.specs.Downsample.{pitchDownsample, whitenLp}
-use Rattle.plc_downsample.proofs.Steps.{takes, refuses-x, refuses-lp}
-use mathlib.Core.Path.{refl, ap, _∙_}
+use Rattle.plc_downsample.proofs.Steps.{one-done, takes, refuses-x, refuses-lp}
+use mathlib.Core.Path.{refl}
 use lib.ListN.{length}
 use borrow.Author.Needs.{needs}
 use Rattle.plc_downsample.proofs.pitch_downsample.Statement.{statement}
@@ -27,11 +26,10 @@ same-length : tie.Need-same-length
 same-length c = search needs
 
 returns-3 : tie.Need-returns-3
-unfolding pitchDownsample
 returns-3 c =
     let a = c .before .before .before .before .before .before .before .before .before .before .before .before .args in
     reply-yes _ _ _ (takes (length (a .x .now)) (length (a .«x-lp» .now)) (search needs) (search needs))
-    (c .before .before .whiten .ensures ∙ ap whitenLp (c .before .before .before .before .before .before .smooth .ensures))
+    (one-done (a .x .now) (c .before .before .whiten .ensures) (c .before .before .before .before .before .before .smooth .ensures))
 
 pub pitch-downsample-spec : {M : Type 1} → statement M
 pitch-downsample-spec =

@@ -1,7 +1,6 @@
 use Rattle.loops.specs.Reply.{reply-yes, reply-no}
-use Rattle.plc_downsample.specs.Downsample.{pitchDownsamplePair, whitenLp}
-use Rattle.plc_downsample.proofs.Steps.{takes-pair, refuses-x0, refuses-x1, refuses-pair-lp}
-use mathlib.Core.Path.{refl, ap, _∙_}
+use Rattle.plc_downsample.proofs.Steps.{pair-done, takes-pair, refuses-x0, refuses-x1, refuses-pair-lp}
+use mathlib.Core.Path.{refl}
 use lib.ListN.{length}
 use borrow.Author.Needs.{needs}
 use Rattle.plc_downsample.proofs.pitch_downsample_pair.Statement.{statement}
@@ -32,11 +31,10 @@ same-length : tie.Need-same-length
 same-length c = search needs
 
 returns-4 : tie.Need-returns-4
-unfolding pitchDownsamplePair
 returns-4 c =
     let a = c .before .before .before .before .before .before .before .before .before .before .before .before .before .before .args in
     reply-yes _ _ _ (takes-pair (length (a .x0 .now)) (length (a .x1 .now)) (length (a .«x-lp» .now)) (search needs) (search needs) (search needs))
-    (c .before .before .whiten .ensures ∙ ap whitenLp (c .before .before .before .before .before .before .smooth-pair .ensures))
+    (pair-done (a .x0 .now) (a .x1 .now) (c .before .before .whiten .ensures) (c .before .before .before .before .before .before .smooth-pair .ensures))
 
 pub pitch-downsample-pair-spec : {M : Type 1} → statement M
 pitch-downsample-pair-spec =

@@ -1,14 +1,14 @@
-use Rattle.plc_downsample.specs.Downsample.{damping}
+use Rattle.plc_whiten.specs.Whiten.{damping}
 use Rattle.loops.specs.Fold.{fold-none, fold-more}
 use Rattle.loops.specs.Front.{front, tab, tab-none, tab-more, tab-read, tab-all}
-use Rattle.plc_downsample.specs.Downsample.{dampingTo, damped}
+use Rattle.plc_whiten.specs.Whiten.{dampingTo, damped}
 use lib.Ieee.{nan, binary32, mul}
 use mathlib.Core.Path.{_≡_, refl, ap, _∙_, sym}
 use Prim.Native.Nat.{ℕ, _+_, _≤_, _<_, _-_}
 use lib.ListN.{length, getD, length-set}
 use borrow.Author.Needs.{needs}
-use Rattle.plc_downsample.proofs.damp.Statement.{statement}
-use Rattle.plc_downsample.proofs.damp.Tie as tie
+use Rattle.plc_whiten.proofs.damp.Statement.{statement}
+use Rattle.plc_whiten.proofs.damp.Tie as tie
 
 abbrev Inv-loop : tie.InvT-loop
 Inv-loop lpc₀ n factor₀ k₀ lpc factor k =

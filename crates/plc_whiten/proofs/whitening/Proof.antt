@@ -1,7 +1,7 @@
-use Rattle.plc_downsample.proofs.Steps.{whitening-done}
+use Rattle.plc_whiten.proofs.Steps.{whitening-done}
 use borrow.Author.Needs.{needs}
-use Rattle.plc_downsample.proofs.whitening.Statement.{statement}
-use Rattle.plc_downsample.proofs.whitening.Tie as tie
+use Rattle.plc_whiten.proofs.whitening.Statement.{statement}
+use Rattle.plc_whiten.proofs.whitening.Tie as tie
 
 celt-autocorr-requires : tie.Need-celt-autocorr-requires
 celt-autocorr-requires c κs = search needs

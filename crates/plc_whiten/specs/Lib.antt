@@ -1,0 +1,2 @@
+-- The whitening ahead of the lag search.
+pub mod Whiten
