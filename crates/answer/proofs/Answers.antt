@@ -1,6 +1,6 @@
 -- The answer's bytes, part by part.
 use mathlib.Core.Path.{_≡_, refl, ap, ap₂, _∙_, sym, subst}
-use mathlib.Core.Bool.{Bool, true, false, cond}
+use mathlib.Core.Bool.{true, false, cond}
 use mathlib.Core.List.{List, [], _∷_, _++_}
 use Prim.Native.Nat.{ℕ, _+_, _*_, _≤_, _<_}
 use native.Mathlib.Omega.{arith}
@@ -18,7 +18,7 @@ use Rattle.settings.specs.Number.{numberOf}
 use Rattle.state.specs.Answer.{Report, reportOf}
 use Rattle.state.specs.declared.Answer.{Answer}
 use Rattle.state.specs.declared.State.{State}
-use Rattle.loss.specs.Loss.{loss, outcomeOf, inBuffer, Outcome}
+use Rattle.loss.specs.Loss.{loss, outcomeOf, inBuffer}
 use Rattle.loss.proofs.Samples.{loss-samples}
 use Rattle.words.specs.Bytes.{wordsBytes, floatsBytes, floatsAt}
 use Rattle.words.proofs.Laws.{length-bytes, put-front, put-next}

@@ -1,12 +1,12 @@
 -- With turns enough for its input, the program writes exactly `answers`.
 use mathlib.Core.Path.{_≡_, refl, ap, ap₂, sym, _∙_}
 use mathlib.Core.Bool.{Bool, true, false, cond}
-use mathlib.Core.List.{List, [], _++_}
+use mathlib.Core.List.{List, _++_}
 use Prim.Native.Nat.{ℕ, zero, suc, _+_, _-_, _/_, _<_, _≤_}
 use native.Mathlib.Omega.{arith}
-use lib.ListN.{length, take, drop, replicate, length-drop, length-replicate}
+use lib.ListN.{length, take, drop, length-drop, length-replicate}
 use lib.Seq.{take-at, length-take-le}
-use lib.Dec.{ltb, leb, eqb}
+use lib.Dec.{ltb, leb}
 use borrow.Author.Tests.{ltb-true, ltb-false, le-leb, eq-eqb}
 use Rattle.loops.specs.Front.{front}
 use Rattle.loops.specs.Pick.{pick-true}

@@ -4,7 +4,7 @@ ghost use mathlib.Core.Bool.{false};
 ghost use Prim.Native.Nat.{_+_, _*_, _/_, _%_, _<_, _≤_};
 ghost use lib.Dec.{T};
 ghost use lib.Ieee.{fin, minus, fits, ofInt, add, binary32, binary64};
-ghost use Rattle.band_gain.specs.Gain.{steps, power, gainAt, gainOf, GainRange, series};
+ghost use Rattle.band_gain.specs.Gain.{steps, power, gainAt, gainOf, GainRange};
 
 mod powers;
 

@@ -2,7 +2,6 @@
 use mathlib.Core.Path.{_≡_, refl, ap, _∙_}
 use Prim.Native.Nat.{ℕ, zero, suc, _+_, _*_, _%_, _^_, _<_}
 use native.Mathlib.Nat.{suc-add, zero-add, mod-lt}
-use native.Mathlib.Numerals.{add-one}
 use lib.Dec.{lit<}
 
 unfoldable pub draw : ℕ → ℕ

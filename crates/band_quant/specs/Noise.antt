@@ -1,10 +1,10 @@
 -- A band of noise: value i is that of the seed i + 1 draws on.
 use mathlib.Core.Path.{_≡_}
 use mathlib.Core.List.{List}
-use Prim.Native.Nat.{ℕ, _+_, _<_}
-use lib.ListN.{length, getD}
+use Prim.Native.Nat.{ℕ, _+_}
+use lib.ListN.{length}
 use lib.Ieee.{Float}
-use Rattle.loops.specs.Front.{tab, length-tab, getD-tab}
+use Rattle.loops.specs.Front.{tab, length-tab}
 use Rattle.float_bits.specs.Words.{noiseValue}
 use Rattle.band_quant.specs.Draw.{draws}
 

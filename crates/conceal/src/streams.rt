@@ -1,6 +1,4 @@
 // Standard input and output. A signal loses nothing, and a stream that does not block is waited for.
-ghost use lib.ListN.{length};
-ghost use Prim.Native.Nat.{_≤_};
 use libc::STDIN_FILENO;
 use libc::STDOUT_FILENO;
 

@@ -1,8 +1,8 @@
 -- The circle of a frame size, what it has at each of its places, and the circle of any other size.
-use mathlib.Core.Path.{_≡_, ap, ap₂, _∙_, sym}
+use mathlib.Core.Path.{_≡_, ap, _∙_, sym}
 use mathlib.Core.Bool.{true, false}
 use mathlib.Core.List.{List}
-use Prim.Native.Nat.{ℕ, _+_, _*_, _/_, _<_}
+use Prim.Native.Nat.{ℕ, _+_, _*_, _/_}
 use native.Mathlib.Omega.{arith}
 use lib.ListN.{getD, drop, List·getD-append}
 use lib.Ieee.{Float, nan}

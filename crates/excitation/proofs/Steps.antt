@@ -2,15 +2,14 @@
 use mathlib.Core.Path.{_≡_, refl, ap, _∙_}
 use mathlib.Core.Bool.{Bool, true, false, cond}
 use mathlib.Core.List.{List, _++_}
-use Prim.Native.Nat.{ℕ, zero, suc, _+_, _*_, _-_, _≤_, _<_}
+use Prim.Native.Nat.{ℕ, zero, suc, _+_, _*_, _-_, _≤_}
 use native.Mathlib.Omega.{arith}
 use lib.Dec.{eqb, ltb}
 use lib.ListN.{length, getD, take, drop}
 use lib.Seq.{length-take-le, getD-append-add, getD-drop}
 use lib.Ieee.{Float, nan, binary32, mul}
-use borrow.Author.Tests.{eqb-true, eqb-false, eq-eqb, le-leb}
+use borrow.Author.Tests.{eqb-true, eq-eqb, le-leb}
 use Rattle.loops.specs.Reply.{reply, replyIf, reply-lent}
-use Rattle.loops.specs.Logic.{and-both}
 use Rattle.buffers.specs.Buffers.{copied, copied-all}
 use Rattle.history.specs.History.{half}
 use Rattle.loops.specs.Fold.{foldTo}
@@ -19,7 +18,7 @@ use Rattle.loops.specs.Sum.{sum-same}
 use Rattle.plc_fir.specs.Fir.{celtFir, celtFirFrom, firTakes}
 use Rattle.excitation.specs.Decay.{longestPeriod, decayPeriod, periodEnergy, decayOf, pitchDecay}
 use Rattle.excitation.specs.Copy.{stepped, positionAt, decayAt, periodicCopy, copiedEnergy}
-use Rattle.excitation.specs.Cycle.{Cycle, cycle, repeatedCycle, pitchCycle}
+use Rattle.excitation.specs.Cycle.{cycle, repeatedCycle, pitchCycle}
 
 -- the two lists have the same from a on
 abbrev Agree : ℕ → List Float → List Float → Type 0

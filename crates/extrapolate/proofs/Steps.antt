@@ -1,6 +1,6 @@
 -- What the steps make together, over plain variables.
 use mathlib.Core.Path.{_≡_, ap, _∙_, sym}
-use mathlib.Core.Bool.{Bool, true, false, not, _&&_}
+use mathlib.Core.Bool.{Bool, true, false, _&&_}
 use mathlib.Core.List.{List, map}
 use Prim.Native.Nat.{ℕ, _≤_, _<_}
 use native.Mathlib.Omega.{arith}
@@ -10,14 +10,14 @@ use lib.Ieee.{Float, lt}
 use borrow.Author.Tests.{eqb-true, leb-true, eq-eqb, le-leb}
 use Rattle.loops.specs.Logic.{and-true}
 use Rattle.loops.specs.Pick.{pick-true, pick-false}
-use Rattle.loops.specs.Reply.{Reply, reply, replyIf, reply-lent}
+use Rattle.loops.specs.Reply.{reply, replyIf, reply-lent}
 use Rattle.buffers.specs.Buffers.{zero32, times, energy}
 use Rattle.history.specs.History.{half}
 use Rattle.plc_fir.specs.Fir.{celtFir}
 use Rattle.plc_iir.specs.Iir.{celtIir, iirTakes}
-use Rattle.plc_iir_pair.specs.Pair.{Channels, channels, iirPairTakes}
+use Rattle.plc_iir_pair.specs.Pair.{channels, iirPairTakes}
 use Rattle.excitation.specs.Copy.{copiedEnergy}
-use Rattle.excitation.specs.Cycle.{Cycle, cycle, repeatedCycle, pitchCycle, cycleTakes}
+use Rattle.excitation.specs.Cycle.{cycle, pitchCycle, cycleTakes}
 use Rattle.extrapolate.specs.Guard.{muted, backScale, guardedAt, guarded}
 use Rattle.extrapolate.specs.Extrapolate.{longest, recent, excitation, fade, fadedCycle, length-fadedCycle, extrapolated, extrapolateTakes, extrapolatePairTakes}
 

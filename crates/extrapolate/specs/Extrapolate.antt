@@ -6,7 +6,7 @@ use mathlib.Core.List.{List, map}
 use lib.ListN.{getD, length, length-map}
 use lib.Dec.{eqb, leb}
 use lib.Ieee.{Float, nan, binary32, ofBits}
-use Rattle.loops.specs.Front.{tab, length-tab}
+use Rattle.loops.specs.Front.{tab}
 use Rattle.buffers.specs.Buffers.{one32, times}
 use Rattle.history.specs.History.{half}
 use Rattle.plc_fir.specs.Fir.{celtFir}
@@ -14,10 +14,7 @@ use Rattle.plc_iir.specs.Iir.{celtIir, length-celtIir}
 use Rattle.excitation.specs.Copy.{copiedEnergy}
 use Rattle.excitation.specs.Cycle.{repeatedCycle, length-repeatedCycle, cycleTakes}
 use Rattle.extrapolate.specs.Guard.{guarded, length-guarded}
-
--- how many coefficients a predictor has
-abbrev pub order : ℕ
-order = 24
+pub use Rattle.plc_pad.specs.Pad.{order}
 
 -- the newest 24, the most recent first
 unfoldable pub recent : List Float → List Float

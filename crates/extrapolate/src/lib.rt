@@ -13,7 +13,7 @@ use history::HALF;
 mod guard;
 
 // How many coefficients a predictor has.
-pub const ORDER: usize = 24;
+pub const ORDER: usize = plc_pad::ORDER;
 
 // The longest frame and twice the overlap.
 pub const LONGEST: usize = 1200;

@@ -1,18 +1,16 @@
 -- A loss keeps a state fit to be written and read back: feeding records back loses nothing.
 use mathlib.Core.Path.{_≡_, refl, ap, sym, subst, _∙_}
-use mathlib.Core.Bool.{Bool, true, false, cond, not}
-use mathlib.Core.List.{List, [], _∷_, _++_}
-use Prim.Native.Nat.{ℕ, zero, suc, _+_, _*_, _-_, _^_, _<_, _≤_}
+use mathlib.Core.Bool.{Bool, true, false, not}
+use mathlib.Core.List.{List}
+use Prim.Native.Nat.{ℕ, zero, suc, _+_, _-_, _^_, _<_, _≤_}
 use native.Mathlib.Omega.{arith}
 use lib.ListN.{length, getD, drop, length-append, length-drop}
-use lib.Dec.{eqb, lit<}
+use lib.Dec.{eqb}
 use lib.Ieee.{Float}
 use borrow.Author.Tests.{eqb-false, not-true}
 use Rattle.loops.specs.Logic.{cond-either}
-use Rattle.band_quant.specs.Draw.{draws}
-use Rattle.custom_mode.specs.Mode.{lastEdge}
 use Rattle.history.specs.History.{half, samples, channel, Tails, tails, tailAt, newest}
-use Rattle.settings.specs.Settings.{factor, firstBin, frame, stereo, needed, checkSettings}
+use Rattle.settings.specs.Settings.{frame, stereo, needed, checkSettings}
 use Rattle.state.specs.State.{core, noisy, searches}
 use Rattle.state.specs.Refusal.{checkCount, checkPcm, refusesState, refusal}
 use Rattle.state.specs.declared.State.{State}
@@ -22,8 +20,8 @@ use Rattle.pitch_fit.specs.Fit.{order, pitchFit, length-pitchFit}
 use Rattle.pitch_predictor.specs.Predictor.{fittedTo}
 use Rattle.pitch_lag.specs.Lag.{lagOf}
 use Rattle.noise_energies.specs.Energies.{length-lowerEnergies}
-use Rattle.noise_loss.specs.Loss.{Blocks, noiseBlocks, noiseSeed}
-use Rattle.deemphasis.specs.Deemphasis.{deemphasis, length-memories}
+use Rattle.noise_loss.specs.Loss.{noiseBlocks, noiseSeed}
+use Rattle.deemphasis.specs.Deemphasis.{length-memories}
 use Rattle.loss.specs.declared.Made.{Made}
 use Rattle.loss.specs.Loss.{lowered, blocks, noiseMade, pitchMade, made, tailsByNoise, tailsByPitch, tailsAfter, historyAfter, frameSound, finish, concealed, refused, answered, loss}
 use Rattle.loss.proofs.Fields.{made-lag}
@@ -32,8 +30,8 @@ use Rattle.loss.proofs.Laws.{block-draws}
 use Rattle.loss.proofs.Lags.{lag-high}
 use Rattle.record.specs.Record.{headWords}
 use Rattle.record_laws.specs.RoundTrip.{Fit}
-use Rattle.fit_laws.specs.Values.{AllSingle, all-index, index-all, all-append, all-slice, all-cond}
-use Rattle.fit_laws.proofs.Steps.{lowered-single, memories-single, fitted-single, TailSingle, TailsSingle, pitches-single, noises-single, with-single, draws-word}
+use Rattle.fit_laws.specs.Values.{AllSingle, all-index, index-all, all-slice, all-cond}
+use Rattle.fit_laws.proofs.Steps.{lowered-single, memories-single, fitted-single, TailsSingle, pitches-single, noises-single, with-single, draws-word}
 
 -- a word of 32 bits
 Word : ℕ → Type 0

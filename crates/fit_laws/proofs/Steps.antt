@@ -1,16 +1,15 @@
 -- Each step of a loss makes f32 values.
-use mathlib.Core.Path.{_≡_, refl}
 use mathlib.Core.Bool.{Bool, true, false, cond}
-use mathlib.Core.List.{List, [], _∷_, _++_, map}
+use mathlib.Core.List.{List, [], _++_, map}
 use Prim.Native.Nat.{ℕ, zero, suc, _+_, _-_, _^_, _<_}
 use lib.ListN.{length, getD, set, take, drop, replicate}
 use lib.Seq.{slice}
 use lib.Dec.{leb}
-use lib.Ieee.{Float, nan, binary32, add, sub, mul, eq, lt, ofBits}
+use lib.Ieee.{Float, nan, binary32, sub, eq, lt, ofBits}
 use lib.Ieee.Fits.{add-fits, sub-fits, mul-fits, div-fits}
 use lib.Ieee.Bits.{ofBits-fits}
 use Rattle.loops.specs.Front.{tab}
-use Rattle.loops.specs.Fold.{foldTo}
+use Rattle.loops.specs.Fold.{fold-holds}
 use Rattle.loops.specs.Logic.{cond-either}
 use Rattle.buffers.specs.Buffers.{zero32, times, energy}
 use Rattle.band_quant.specs.Draw.{draw, draws, draw-word}
@@ -19,8 +18,7 @@ use Rattle.celt_window.specs.Window.{window}
 use Rattle.post_filter.specs.declared.Filter.{Filter}
 use Rattle.prefilter.specs.Comb.{combAt, combFilterTo, tapGain, preFiltered}
 use Rattle.plc_lpc.specs.Lpc.{Lpc, crossed, reflection, lpcWith, lpcTurn, lpcTo, celtLpc}
-use Rattle.plc_pad.specs.Past.{past}
-use Rattle.plc_iir.specs.Iir.{iirSum, iirAt, iirTo, celtIir}
+use Rattle.plc_iir.specs.Iir.{iirAt, iirTo, celtIir}
 use Rattle.excitation.specs.Cycle.{repeatedCycle}
 use Rattle.extrapolate.specs.Guard.{muted, backScale, guardedAt, guarded}
 use Rattle.extrapolate.specs.Extrapolate.{order, recent, excitation, fade, fadedCycle, extrapolated}
@@ -32,10 +30,10 @@ use Rattle.pitch_loss.specs.PitchLoss.{extra, tailAfter, pitchTail, pitchTails}
 use Rattle.noise_block.specs.Block.{windowed, noiseBlock}
 use Rattle.noise_energies.specs.Energies.{energyDrop, drops, droppedAt, lowerEnergies}
 use Rattle.noise_loss.specs.Cover.{overlapped, coveredTail}
-use Rattle.noise_loss.specs.Loss.{channelBlock, Blocks, noiseBlocks, noiseTails}
+use Rattle.noise_loss.specs.Loss.{channelBlock, noiseBlocks, noiseTails}
 use Rattle.deemphasis.specs.Deemphasis.{nextMemory, memoryTo, deemphasis}
 use Rattle.settings.specs.declared.Settings.{Settings}
-use Rattle.fit_laws.specs.Values.{Single, AllSingle, all-at, all-append, all-take, all-drop, all-slice, all-set, all-map, all-replicate, all-tab, all-cond, fold-holds}
+use Rattle.fit_laws.specs.Values.{Single, AllSingle, all-at, all-append, all-take, all-drop, all-slice, all-set, all-map, all-replicate, all-tab, all-cond}
 
 -- ---- energies and memories
 
@@ -51,7 +49,7 @@ pub memories-single : (d : ℕ) (vs : List (List Float)) (m : List Float) → Al
 unfolding deemphasis memoryTo nextMemory
 memories-single d vs m a =
     all-append _ (drop (length vs) m)
-    (all-tab _ (length vs) (λ c. fold-holds Single _ (getD m c nan) (length (getD vs 0 [])) (all-at m c a) (λ x i s. sub-fits binary32 _ _)))
+    (all-tab _ (length vs) (λ c. fold-holds Single _ (getD m c nan) (length (getD vs 0 [])) (all-at m c a) (λ x i _ s. sub-fits binary32 _ _)))
     (all-drop (length vs) m a)
 
 -- ---- the predictor
@@ -67,7 +65,7 @@ turn-single ac s i a = go (s .done)
 
     go : (b : Bool) → AllSingle (cond b s (lpcWith ac s i r) .lpc)
     go true = a
-    go false = fold-holds AllSingle (crossed r i) (set (s .lpc) i r) _ (all-set (s .lpc) i r a (div-fits binary32 _ _)) (λ l j p. crossed-single r i l j p)
+    go false = fold-holds AllSingle (crossed r i) (set (s .lpc) i r) _ (all-set (s .lpc) i r a (div-fits binary32 _ _)) (λ l j _ p. crossed-single r i l j p)
 
 lpc-single : (ac : List Float) (p : ℕ) → AllSingle (celtLpc ac p)
 unfolding celtLpc lpcTo
@@ -75,7 +73,7 @@ lpc-single ac p =
     let zeros = all-replicate p zero32 (ofBits-fits binary32 0) in
     let start : Lpc = record { lpc = replicate p zero32; error = getD ac 0 nan; done = false } in
     all-cond (eq (getD ac 0 nan) zero32) (replicate p zero32) (lpcTo ac p p .lpc) zeros
-    (fold-holds (λ (s : Lpc). AllSingle (s .lpc)) (lpcTurn ac) start p zeros (turn-single ac))
+    (fold-holds (λ (s : Lpc). AllSingle (s .lpc)) (lpcTurn ac) start p zeros (λ s i _ w. turn-single ac s i w))
 
 pub fitted-single : (two : Bool) (p : List Float) (t : Tails) → AllSingle p → AllSingle (fittedTo two p t)
 unfolding fittedTo pitchFit
@@ -96,7 +94,7 @@ unfolding iirTo iirAt AllSingle
 iir-single den mem x zero a = tt
 iir-single den mem x (suc n) a =
     all-append (iirTo den mem x n) _ (iir-single den mem x n a)
-    (fold-holds Single _ (getD x n nan) (length den) (all-at x n a) (λ s j p. sub-fits binary32 _ _), tt)
+    (fold-holds Single _ (getD x n nan) (length den) (all-at x n a) (λ s j _ p. sub-fits binary32 _ _), tt)
 
 guarded-single : (s1 : Float) (e : List Float) → AllSingle e → AllSingle (guarded s1 e)
 unfolding guarded guardedAt

@@ -1,5 +1,4 @@
 -- Lists whose values are all f32.
-use mathlib.Core.Path.{_≡_, refl, ap, subst}
 use mathlib.Core.Bool.{Bool, true, false, cond}
 use mathlib.Core.List.{List, [], _∷_, _++_, map}
 use Prim.Native.Nat.{ℕ, zero, suc, _<_}
@@ -10,7 +9,6 @@ use lib.Dec.{T}
 use lib.Ieee.{Float, nan, binary32, fits}
 use lib.Ieee.Fits.{nan-fits}
 use Rattle.loops.specs.Front.{tab}
-use Rattle.loops.specs.Fold.{foldTo}
 
 -- an f32
 abbrev pub Single : Float → Type 0
@@ -70,12 +68,6 @@ all-tab f (suc n) s = all-append (tab f n) (f n ∷ []) (all-tab f n s) (s n, tt
 pub all-cond : (b : Bool) (xs ys : List Float) → AllSingle xs → AllSingle ys → AllSingle (cond b xs ys)
 all-cond true xs ys p q = p
 all-cond false xs ys p q = q
-
--- what each turn keeps, a loop keeps
-pub fold-holds : {A : Type 0} (P : A → Type 0) (f : A → ℕ → A) (a : A) (n : ℕ) → P a → ((x : A) (i : ℕ) → P x → P (f x i)) → P (foldTo f a n)
-unfolding foldTo
-fold-holds P f a zero p s = p
-fold-holds P f a (suc n) p s = s (foldTo f a n) n (fold-holds P f a n p s)
 
 -- by index, as a record's reader has it, and back
 pub all-index : (xs : List Float) → AllSingle xs → (i : ℕ) → i < length xs → Single (getD xs i nan)

@@ -1,19 +1,19 @@
 -- Nothing of the forward filter shows: the roll and the new frame overwrite all that it changed.
 use mathlib.Core.Path.{_≡_, refl, ap, ap₂, sym, _∙_}
 use mathlib.Core.Bool.{Bool, true, false, cond}
-use mathlib.Core.List.{List, [], _++_, append-assoc, append-nil}
-use Prim.Native.Nat.{ℕ, zero, suc, _+_, _-_, _≤_, _<_}
+use mathlib.Core.List.{List, _++_, append-assoc, append-nil}
+use Prim.Native.Nat.{ℕ, _+_, _-_, _≤_}
 use native.Mathlib.Omega.{arith}
-use lib.ListN.{length, getD, set, take, drop, length-set, length-append, length-take, length-drop, drop-of-length-le}
-use lib.Seq.{slice, length-slice, length-take-le, take-at, drop-at, drop-drop, take-append-le, take-take, take-set-le}
-use lib.Ieee.{Float, eq, binary32, ofBits}
-use Rattle.loops.specs.Fold.{foldTo, fold-keeps}
-use Rattle.loops.specs.Part.{put, take-put, drop-put, length-put}
+use lib.ListN.{length, take, drop, length-set, length-append, length-drop, drop-of-length-le}
+use lib.Seq.{slice, length-take-le, take-at, drop-at, drop-drop, take-append-le, take-take, take-set-le}
+use lib.Ieee.{Float}
+use Rattle.loops.specs.Fold.{fold-keeps}
+use Rattle.loops.specs.Part.{put, drop-put}
 use Rattle.celt_window.specs.Window.{window}
 use Rattle.history.proofs.Parts.{slice-take, TailSized}
 use Rattle.history.specs.History.{half, overlap, Tail, tailList, tailOf}
 use Rattle.post_filter.specs.declared.Filter.{Filter}
-use Rattle.prefilter.specs.Comb.{preFiltered, preFilteredEnd}
+use Rattle.prefilter.specs.Comb.{skips, preFiltered, preFilteredEnd}
 use Rattle.fold.specs.Roll.{movedBack, rolled, length-rolled}
 use Rattle.fold.specs.Fold.{folded, length-folded}
 use Rattle.extrapolate.specs.Extrapolate.{extrapolated, length-extrapolated}
@@ -40,7 +40,7 @@ module _ (t : ℕ) (g0 g1 g2 : Float) where
 
 post-length : (f : Filter) (x : List Float) → length (postFiltered f x) ≡ length x
 unfolding postFiltered
-post-length f x = go (eq (f .gain) (ofBits binary32 0))
+post-length f x = go (skips (f .gain))
   where
     go : (b : Bool) → length (cond b x (combFilter (f .period) (forwardGain f 0) (forwardGain f 1) (forwardGain f 2) x)) ≡ length x
     go true = refl
@@ -48,7 +48,7 @@ post-length f x = go (eq (f .gain) (ofBits binary32 0))
 
 post-keeps : (f : Filter) (x : List Float) → take half (postFiltered f x) ≡ take half x
 unfolding postFiltered
-post-keeps f x = go (eq (f .gain) (ofBits binary32 0))
+post-keeps f x = go (skips (f .gain))
   where
     go : (b : Bool) → take half (cond b x (combFilter (f .period) (forwardGain f 0) (forwardGain f 1) (forwardGain f 2) x)) ≡ take half x
     go true = refl

@@ -1,14 +1,13 @@
 -- Both losses are equal, on every state, history and buffer.
-use mathlib.Core.Path.{_≡_, refl, ap, sym, _∙_}
-use mathlib.Core.Bool.{Bool, true, false, cond}
+use mathlib.Core.Path.{_≡_, refl, ap}
+use mathlib.Core.Bool.{Bool, cond}
 use mathlib.Core.List.{List}
 use Prim.Native.Nat.{ℕ, zero, suc, _≤_}
 use native.Mathlib.Omega.{arith}
 use lib.ListN.{length}
-use lib.Dec.{eqb}
 use lib.Ieee.{Float}
-use Rattle.history.specs.History.{half, Tail, Tails, tails, withTails}
-use Rattle.history.proofs.Parts.{TailSized, Sized, tails-sized}
+use Rattle.history.specs.History.{half, Tails, tails, withTails}
+use Rattle.history.proofs.Parts.{Sized, tails-sized}
 use Rattle.post_filter.specs.declared.Filter.{Filter}
 use Rattle.settings.specs.Settings.{frame, stereo}
 use Rattle.state.specs.State.{core, noisy}

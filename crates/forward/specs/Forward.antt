@@ -2,14 +2,14 @@
 use mathlib.Core.Bool.{Bool, cond}
 use mathlib.Core.List.{List}
 use Prim.Native.Nat.{ℕ, _+_, _-_}
-use lib.ListN.{getD, set, length, take}
+use lib.ListN.{getD, set, take}
 use lib.Seq.{slice}
-use lib.Ieee.{Float, nan, binary32, add, mul, eq, ofBits}
+use lib.Ieee.{Float, nan, binary32, add, mul}
 use Rattle.loops.specs.Fold.{foldTo}
 use Rattle.loops.specs.Part.{put}
 use Rattle.celt_window.specs.Window.{window}
 use Rattle.history.specs.History.{half, overlap, Tail, tailList, tailOf}
-use Rattle.prefilter.specs.Comb.{pairAt, preFilteredEnd}
+use Rattle.prefilter.specs.Comb.{pairAt, skips, preFilteredEnd}
 use Rattle.post_filter.specs.Gains.{combGains}
 use Rattle.post_filter.specs.declared.Filter.{Filter}
 use Rattle.fold.specs.Roll.{movedBack}
@@ -34,10 +34,9 @@ combFilter t g0 g1 g2 x = foldTo (combTurn t g0 g1 g2) x overlap
 unfoldable pub forwardGain : Filter → ℕ → Float
 forwardGain f k = mul binary32 (f .gain) (getD (combGains (f .tapset)) k nan)
 
--- a gain of zero, of either sign, skips it
 unfoldable pub postFiltered : Filter → List Float → List Float
 postFiltered f x =
-    cond (eq (f .gain) (ofBits binary32 0)) x (combFilter (f .period) (forwardGain f 0) (forwardGain f 1) (forwardGain f 2) x)
+    cond (skips (f .gain)) x (combFilter (f .period) (forwardGain f 0) (forwardGain f 1) (forwardGain f 2) x)
 
 -- the steps after the synthesis e, in the Rust's order: the forward filter, the roll with the overlap in it, the fold, the frame, the pre-filter
 unfoldable pub framed : ℕ → List Float → List Float → Filter → List Float

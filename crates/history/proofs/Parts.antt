@@ -4,12 +4,12 @@ use mathlib.Core.Bool.{Bool}
 use mathlib.Core.List.{List, [], _∷_, _++_, append-assoc, append-nil}
 use Prim.Native.Nat.{ℕ, _+_, _-_, _≤_}
 use native.Mathlib.Omega.{arith}
-use lib.ListN.{length, take, drop, length-append, length-drop, drop-of-length-le, take-append-drop}
+use lib.ListN.{length, take, drop, length-append, drop-of-length-le, take-append-drop}
 use lib.Seq.{slice, length-slice, length-take-le, take-at, drop-at, take-add, take-take, take-all, drop-drop}
 use lib.Dec.{lit≤}
 use lib.Ieee.{Float}
 use Rattle.loops.specs.Part.{put, drop-slice}
-use Rattle.history.specs.History.{half, samples, overlap, channel, whole, Tail, Tails, tailAt, tails, withTails, tailList, tailOf, both, newest, oldest}
+use Rattle.history.specs.History.{half, overlap, channel, whole, Tail, Tails, tailAt, tails, withTails, tailList, tailOf, both, newest, oldest}
 
 module _ {A : Type 0} where
   -- a slice, by its length

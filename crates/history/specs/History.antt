@@ -5,6 +5,7 @@ use Prim.Native.Nat.{ℕ, _+_, _-_}
 use lib.ListN.{take, drop}
 use lib.Seq.{slice}
 use lib.Ieee.{Float}
+pub use Rattle.custom_mode.specs.Mode.{overlap}
 
 -- the newest samples of a channel that a loss may change
 abbrev pub half : ℕ
@@ -13,9 +14,6 @@ half = 1024
 -- a channel's samples without its overlap
 abbrev pub samples : ℕ
 samples = 2048
-
-abbrev pub overlap : ℕ
-overlap = 120
 
 -- a channel with its overlap; channel 1 starts here
 abbrev pub channel : ℕ

@@ -7,7 +7,7 @@ pub const HALF: usize = 1024;
 // A channel's samples without its overlap.
 pub const SAMPLES: usize = 2048;
 
-pub const OVERLAP: usize = 120;
+pub const OVERLAP: usize = custom_mode::standard::OVERLAP;
 
 // A channel with its overlap; channel 1 starts here.
 pub const CHANNEL: usize = 2168;

@@ -9,8 +9,9 @@ use lib.IntN.{pos, negsuc}
 use lib.ListN.{length, getD, set, replicate}
 use lib.Ieee.{Float, nan, inf, fin, binary32, add, sub, mul, div, lt, eq, neg, ofBits, ofInt, unlike}
 use borrow.Author.Tests.{ltb-true, eqb-false}
-use Rattle.loops.specs.Fold.{foldTo}
+use Rattle.loops.specs.Fold.{foldTo, fold-holds}
 use Rattle.loops.specs.Front.{tab, tab-same, getD-tab, length-tab}
+use Rattle.loops.specs.Nan.{add-nan}
 use Rattle.loops.specs.Sum.{sumTo}
 use Rattle.buffers.specs.Buffers.{zero32}
 use Rattle.plc.specs.Const.{floor32}
@@ -20,10 +21,9 @@ use Rattle.plc_lpc.specs.Lpc.{lpcTo, celtLpc, length-celtLpc}
 use Rattle.plc_pad.specs.Past.{past}
 use Rattle.plc_fir.specs.Fir.{firAt, celtFir, length-celtFir}
 use Rattle.plc_whiten.specs.Whiten.{tilt, dampingTo, damped, whitener, whitenLp}
-use Rattle.plc_downsample.specs.Downsample.{half32, smoothedAt, smoothed, smoothedPair, pitchDownsample, pitchDownsamplePair}
-use Rattle.plc_search.specs.Offset.{fold-holds}
+use Rattle.plc_downsample.specs.Downsample.{half32, smoothedAt, smoothed, summedAt, smoothedPair, nan-first, nan-second, pitchDownsample, pitchDownsamplePair}
 use Rattle.plc_search.specs.Search.{pitchSearch}
-use Rattle.lag_laws.specs.NoPitch.{SignedZero, zero-mul, zero-add, add-nan, silent, all-nan}
+use Rattle.lag_laws.specs.NoPitch.{SignedZero, zero-mul, zero-add, silent, all-nan}
 
 -- every one of the first n
 abbrev pub Each : (Float → Type 0) → ℕ → List Float → Type 0
@@ -263,20 +263,18 @@ nan-history x a = tab-nan (smoothedAt x) (smoothed-nan x a)
 
 -- two channels; one that is all NaN is enough
 pub silent-pair : (x y : List Float) → Each SignedZero 2048 x → Each SignedZero 2048 y → 720 - pitchSearch (pitchDownsamplePair x y) ≡ 720
-unfolding pitchDownsamplePair smoothedPair
+unfolding pitchDownsamplePair smoothedPair summedAt
 silent-pair x y a b =
-    tab-zero (λ (i : ℕ). add binary32 (smoothedAt x i) (smoothedAt y i))
+    tab-zero (summedAt x y)
     (λ i h. sum-zero (smoothedAt x i) (smoothedAt y i) (smoothed-zero x a i h) (smoothed-zero y b i h))
 
 -- either channel of NaN is enough
 pub nan-pair : (x y : List Float) → Each (λ v. v ≡ nan) 2048 y → 720 - pitchSearch (pitchDownsamplePair x y) ≡ 720
 unfolding pitchDownsamplePair smoothedPair
 nan-pair x y b =
-    tab-nan (λ (i : ℕ). add binary32 (smoothedAt x i) (smoothedAt y i))
-    (λ i h. ap (add binary32 (smoothedAt x i)) (smoothed-nan y b i h) ∙ add-nan (smoothedAt x i))
+    tab-nan (summedAt x y) (λ i h. nan-second x y i (smoothed-nan y b i h))
 
 pub nan-pair-first : (x y : List Float) → Each (λ v. v ≡ nan) 2048 x → 720 - pitchSearch (pitchDownsamplePair x y) ≡ 720
-unfolding pitchDownsamplePair smoothedPair add
+unfolding pitchDownsamplePair smoothedPair
 nan-pair-first x y a =
-    tab-nan (λ (i : ℕ). add binary32 (smoothedAt x i) (smoothedAt y i))
-    (λ i h. ap (λ z. add binary32 z (smoothedAt y i)) (smoothed-nan x a i h))
+    tab-nan (summedAt x y) (λ i h. nan-first x y i (smoothed-nan x a i h))

@@ -7,15 +7,15 @@ use native.Mathlib.Omega.{arith}
 use lib.IntN.{pos}
 use lib.ListN.{getD, drop}
 use lib.Seq.{getD-drop}
-use lib.Ieee.{Float, nan, inf, fin, binary32, add, mul, lt, neg, isNan, ofBits, unlike}
-use Rattle.loops.specs.Fold.{fold-suc}
+use lib.Ieee.{Float, nan, fin, binary32, add, mul, lt, neg, isNan, ofBits, unlike}
+use Rattle.loops.specs.Fold.{fold-suc, fold-holds}
 use Rattle.loops.specs.Front.{getD-tab}
+use Rattle.loops.specs.Nan.{add-nan}
 use Rattle.loops.specs.Pick.{pick-false}
 use Rattle.loops.specs.Sum.{sumTo}
 use Rattle.buffers.specs.Buffers.{zero32}
 use Rattle.float_bits.specs.Extremes.{maxOf}
 use Rattle.plc_best.specs.Best.{minusOne, considered, sweepTurn, sweepTo, bestStart, findBestPitch}
-use Rattle.plc_search.specs.Offset.{fold-holds}
 use Rattle.plc_correlate.specs.Correlation.{crossSum, correlation}
 use Rattle.plc_search.specs.Search.{everySecond, near, fineAt, coarse, fine, coarseBest, fineBest, refined, pitchSearch}
 
@@ -112,11 +112,6 @@ silent y a =
     (λ i h. correlation-zero (drop 360 y) y 664 i (later SignedZero y a) (λ j k. a (i + j) (omega arith)))
 
 -- ---- NaN
-pub add-nan : (x : Float) → add binary32 x nan ≡ nan
-unfolding add
-add-nan nan = refl
-add-nan (inf s) = refl
-add-nan (fin s m e) = refl
 
 mul-nan : (y : Float) → mul binary32 nan y ≡ nan
 unfolding mul

@@ -63,3 +63,9 @@ pub fold-keeps : {A B : Type 0} (g : A → B) (f : A → ℕ → A) (a : A) (n :
 unfolding foldTo
 fold-keeps g f a zero k = refl
 fold-keeps g f a (suc n) k = k (foldTo f a n) n ∙ fold-keeps g f a n k
+
+-- what holds at the start and is kept by each turn holds at the end
+pub fold-holds : {A : Type 0} (P : A → Type 0) (f : A → ℕ → A) (a : A) (n : ℕ) → P a → ((s : A) (i : ℕ) → i < n → P s → P (f s i)) → P (foldTo f a n)
+unfolding foldTo
+fold-holds P f a zero h k = h
+fold-holds P f a (suc n) h k = k (foldTo f a n) n (omega arith) (fold-holds P f a n h (λ s i l. k s i (omega arith)))

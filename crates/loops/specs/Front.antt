@@ -4,8 +4,8 @@ use mathlib.Core.List.{List, [], _∷_, _++_, append-nil, map, map-append}
 use Prim.Native.Nat.{ℕ, zero, suc, _+_, _≤_, _<_, _-_}
 use native.Mathlib.Omega.{arith}
 use native.Mathlib.Numerals.{add-one}
-use lib.ListN.{length, getD, set, take, drop, length-set, length-append, length-drop, drop-of-length-le, List·getD-append, replicate, length-replicate, replicate-append-replicate, length-map}
-use lib.Seq.{set-at, getD-at, drop-cons, append-snoc, length-take-le, take-suc, take-length, drop-drop, ext-getD}
+use lib.ListN.{length, getD, set, take, drop, length-append, drop-of-length-le, List·getD-append, replicate, length-replicate, replicate-append-replicate, length-map}
+use lib.Seq.{set-at, getD-at, drop-cons, append-snoc, length-take-le, take-suc, take-length, ext-getD}
 use mathlib.Core.Bool.{Bool, true, false}
 use lib.Dec.{eqb}
 use borrow.Author.Tests.{eqb-true, eqb-false}

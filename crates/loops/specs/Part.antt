@@ -1,10 +1,10 @@
 -- A part of a list that is replaced: what a part of a `&mut` slice leaves when it comes back.
-use mathlib.Core.Path.{_≡_, refl, ap, _∙_, sym}
-use mathlib.Core.List.{List, [], _∷_, _++_, append-assoc}
-use Prim.Native.Nat.{ℕ, zero, suc, _+_, _-_, _≤_, _<_}
+use mathlib.Core.Path.{_≡_, ap, _∙_, sym}
+use mathlib.Core.List.{List, _++_}
+use Prim.Native.Nat.{ℕ, _+_, _-_, _≤_}
 use native.Mathlib.Omega.{arith}
-use lib.ListN.{length, getD, take, drop, length-append, length-take, length-drop, take-append-drop}
-use lib.Seq.{slice, length-take-le, take-at, drop-at, take-append-le, drop-append-le, drop-drop, getD-drop, getD-take, getD-append-add}
+use lib.ListN.{length, take, drop, length-append, length-drop, take-append-drop}
+use lib.Seq.{slice, length-take-le, take-at, drop-at, drop-append-le, drop-drop}
 
 module _ {A : Type 0} where
   -- the n elements from a on replaced by y, as the borrow checker has a part that came back

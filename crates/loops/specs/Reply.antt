@@ -1,5 +1,5 @@
 -- What a call that may refuse leaves: whether it took what it was given, and what was lent to it.
-use mathlib.Core.Path.{_≡_, refl, ap, _∙_, sym}
+use mathlib.Core.Path.{_≡_, ap, _∙_, sym}
 use mathlib.Core.Bool.{Bool, true, false, cond}
 
 pub record Reply (A : Type 0) : Type 0 where

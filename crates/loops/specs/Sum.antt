@@ -1,8 +1,8 @@
 -- A float sum taken in order, one rounding for each addition.
-use mathlib.Core.Path.{_≡_, refl, ap, _∙_, sym}
+use mathlib.Core.Path.{_≡_, ap}
 use Prim.Native.Nat.{ℕ, _+_, _<_}
 use lib.Ieee.{Float, Format, add}
-use Rattle.loops.specs.Fold.{foldTo, fold-more, fold-none, fold-same, fold-split}
+use Rattle.loops.specs.Fold.{foldTo, fold-more, fold-none, fold-same}
 
 -- (..((a + t 0) + t 1) + ..) + t (n - 1), each sum rounded to the format f
 unfoldable pub sumTo : Format → (ℕ → Float) → Float → ℕ → Float

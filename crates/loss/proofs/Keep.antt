@@ -1,15 +1,15 @@
 -- What an accepted loss keeps.
-use mathlib.Core.Path.{_≡_, refl, ap, _∙_}
+use mathlib.Core.Path.{_≡_, refl}
 use mathlib.Core.Bool.{Bool, cond, true, false, _&&_}
 use mathlib.Core.List.{List}
-use Prim.Native.Nat.{ℕ, _+_, _≤_}
+use Prim.Native.Nat.{_+_, _≤_}
 use native.Mathlib.Omega.{arith}
 use lib.ListN.{length}
 use lib.Dec.{eqb}
 use lib.Ieee.{Float}
-use borrow.Author.Tests.{eqb-true, eqb-false}
+use borrow.Author.Tests.{eqb-false}
 use Rattle.loops.specs.Logic.{cond-either}
-use Rattle.history.specs.History.{whole, Tails, tails, withTails}
+use Rattle.history.specs.History.{whole, tails}
 use Rattle.history.proofs.Parts.{Sized, tails-sized, with-length, tails-with}
 use Rattle.settings.specs.Settings.{frame, stereo}
 use Rattle.state.specs.State.{core, noisy, searches}
@@ -18,10 +18,8 @@ use Rattle.state.specs.declared.State.{State}
 use Rattle.settings.proofs.Passed.{frame-high}
 use Rattle.state.proofs.Keep.{Ok, lag-range, range-lag}
 use Rattle.pitch_lag.specs.Lag.{lagOf}
-use Rattle.pitch_loss.specs.PitchLoss.{pitchTails}
 use Rattle.pitch_loss.proofs.Tails.{pitches-sized}
-use Rattle.noise_loss.specs.Loss.{noiseTails}
-use Rattle.loss.specs.Loss.{blocks, noiseMade, pitchMade, made, tailsByNoise, tailsByPitch, tailsAfter, historyAfter, finish, concealed}
+use Rattle.loss.specs.Loss.{blocks, made, tailsByNoise, tailsByPitch, tailsAfter, historyAfter, finish, concealed}
 use Rattle.loss.specs.declared.Made.{Made}
 use Rattle.loss.proofs.Fields.{made-lag}
 use Rattle.loss.proofs.Lags.{lag-low, lag-high}

@@ -1,5 +1,5 @@
 -- What is asked of the noise path's steps.
-use mathlib.Core.Path.{_≡_, refl, ap, sym, _∙_}
+use mathlib.Core.Path.{_≡_}
 use mathlib.Core.Bool.{Bool}
 use mathlib.Core.List.{List, _++_}
 use Prim.Native.Nat.{ℕ, _+_, _*_, _-_, _≤_, _<_}
@@ -12,12 +12,12 @@ use Rattle.custom_mode.specs.Mode.{bands, lastEdge}
 use Rattle.history.specs.History.{half, overlap, Tail, Tails}
 use Rattle.history.proofs.Parts.{TailSized, Sized}
 use Rattle.band_quant.specs.Draw.{draws}
-use Rattle.settings.specs.Settings.{factor, frame, firstBin, stereo, checkSettings}
+use Rattle.settings.specs.Settings.{factor, frame, firstBin, checkSettings}
 use Rattle.settings.specs.declared.Settings.{Settings}
 use Rattle.settings.proofs.Passed.{frame-low, frame-high}
 use Rattle.noise_block.specs.Block.{length-block, block-seed}
 use Rattle.noise_loss.specs.Cover.{overlapped, coveredTail, length-covered-new, length-covered-over}
-use Rattle.noise_loss.specs.Loss.{Blocks, channelBlock, noiseBlocks, noiseTails}
+use Rattle.noise_loss.specs.Loss.{channelBlock, noiseBlocks, noiseTails}
 
 pub block-samples : (k : Settings) (seed : ℕ) (e : List Float) → length (channelBlock k seed e .samples) ≡ frame k + overlap
 unfolding channelBlock frame

@@ -1,6 +1,6 @@
 -- What every call is known to do, in document 01's words.
 use mathlib.Core.Path.{_≡_}
-use mathlib.Core.Bool.{cond, true, false}
+use mathlib.Core.Bool.{cond, false}
 use mathlib.Core.List.{List, []}
 use Prim.Native.Nat.{ℕ, _+_, _*_, _/_}
 use lib.Ieee.{Float}
@@ -8,7 +8,7 @@ use Rattle.history.specs.History.{newest}
 use Rattle.settings.specs.Settings.{frame, stereo}
 use Rattle.state.specs.State.{core, noisy, searches}
 use Rattle.state.specs.declared.State.{State}
-use Rattle.deemphasis.specs.Deemphasis.{Sound, sound, deemphasis}
+use Rattle.deemphasis.specs.Deemphasis.{sound, deemphasis}
 use Rattle.loss.specs.Loss.{Outcome}
 
 -- what was refused with the number n is as it was lent

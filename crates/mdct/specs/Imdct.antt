@@ -44,9 +44,9 @@ length-imdct n xs = length-tab _ (2 * n)
 unfoldable pub imdctTakes : ℕ → ℕ → Bool
 imdctTakes n m = isFrameSize n && eqb m (2 * n)
 
-pub takes : (n m : ℕ) → isFrameSize n ≡ true → m ≡ 2 * n → imdctTakes n m ≡ true
+pub takes-frame : (n m : ℕ) → isFrameSize n ≡ true → m ≡ 2 * n → imdctTakes n m ≡ true
 unfolding imdctTakes
-takes n m e h = simp (e, eq-eqb m (2 * n) h)
+takes-frame n m e h = simp (e, eq-eqb m (2 * n) h)
 
 pub takes-no-size : (n m : ℕ) → isFrameSize n ≡ false → imdctTakes n m ≡ false
 unfolding imdctTakes

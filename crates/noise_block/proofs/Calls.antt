@@ -16,7 +16,7 @@ use Rattle.loops.specs.Logic.{and-true, and-first, and-second}
 use Rattle.loops.specs.Reply.{reply, replyIf, reply-yes, reply-no}
 use Rattle.buffers.specs.Buffers.{zero32}
 use Rattle.cosine_circle.specs.Circle.{isFrameSize, size-is-frame}
-use Rattle.mdct.specs.Imdct.{imdct, imdctTakes, imdctReply, takes, reply-outputs}
+use Rattle.mdct.specs.Imdct.{imdct, imdctTakes, imdctReply, takes-frame, reply-outputs}
 use Rattle.noise_spectrum.specs.Spectrum.{spectrum}
 use Rattle.noise_block.specs.Block.{windowed, Block, drawnBlock, noiseBlock}
 use Rattle.noise_block.specs.Call.{settingsFit, blockTakes}
@@ -68,7 +68,7 @@ pub block-is : (m start end d seed : ℕ) (energies f xs out u us w : List Float
 unfolding noiseBlock
 block-is m start end d seed energies f xs out u us w took s ex ef lf lo eu es ew =
     let l : length xs ≡ 120 * m = ap length ex ∙ lf in
-    let t : imdctTakes (length xs) (length out) ≡ true = takes (length xs) (length out) (ap isFrameSize l ∙ s) (omega arith) in
+    let t : imdctTakes (length xs) (length out) ≡ true = takes-frame (length xs) (length out) (ap isFrameSize l ∙ s) (omega arith) in
     let v : u ≡ imdct (120 * m) (spectrum m start end d seed energies) = reply-outputs xs out eu t ∙ ap₂ imdct l (ex ∙ ef) in
     ew ∙ ap (λ z. tab (windowed (120 * m) z) (120 * m + 120)) (es ∙ v)
 

@@ -12,10 +12,7 @@ use Rattle.plc.specs.Autocorr.{celtAutocorr}
 use Rattle.plc_window.specs.Window.{windowedEnds}
 use Rattle.plc_lpc.specs.Lpc.{celtLpc, length-celtLpc}
 use Rattle.plc_lag_window.specs.LagWindow.{lagWindow}
-
--- how many coefficients a predictor has
-abbrev pub order : ℕ
-order = 24
+pub use Rattle.plc_pad.specs.Pad.{order}
 
 -- a channel's coefficients, from its newest 1,024 samples
 unfoldable pub pitchFit : List Float → List Float

@@ -7,7 +7,7 @@ ghost use Rattle.pitch_fit.specs.Fit.{order, pitchFit, fitTakes};
 use history::HALF;
 
 // How many coefficients a predictor has.
-pub const ORDER: usize = 24;
+pub const ORDER: usize = plc_pad::ORDER;
 
 fn fit(new: &[f32], lpc: &mut [f32])
     requires { ⌜ (length (now new) ≡ half) × (length (now lpc) ≡ order) ⌝ }

@@ -1,6 +1,6 @@
 -- What the steps of a pitch loss make of the tails.
 use mathlib.Core.Path.{_≡_, ap, _∙_, sym}
-use mathlib.Core.Bool.{Bool, true, false, cond, _&&_}
+use mathlib.Core.Bool.{Bool, true, false}
 use mathlib.Core.List.{List, [], _++_, append-nil}
 use Prim.Native.Nat.{ℕ, _+_, _-_, _≤_}
 use native.Mathlib.Omega.{arith}
@@ -12,11 +12,11 @@ use borrow.Author.Tests.{eqb-true, leb-true, eq-eqb, le-leb}
 use Rattle.loops.specs.Logic.{and-true, and-both, cond-either}
 use Rattle.loops.specs.Part.{put}
 use Rattle.loops.specs.Reply.{reply, replyIf, reply-lent}
-use Rattle.history.specs.History.{half, samples, overlap, channel, whole, Tail, Tails, tailAt, tails, withTails, tailList, tailOf}
+use Rattle.history.specs.History.{half, overlap, channel, whole, Tail, Tails, tailAt, tails, withTails, tailList, tailOf}
 use Rattle.history.specs.History as History
 use Rattle.history.proofs.Parts.{TailSized, Sized, slice-take, tails-sized, lent-first, lent-second, tailOf-list, with-length, tails-with, put-first, put-both}
 use Rattle.celt_window.specs.Window.{window}
-use Rattle.plc_iir_pair.specs.Pair.{Channels, channels}
+use Rattle.plc_iir_pair.specs.Pair.{channels}
 use Rattle.post_filter.specs.declared.Filter.{Filter}
 use Rattle.post_filter.specs.Limits.{filterFits}
 use Rattle.prefilter.specs.Comb.{preFiltered, length-preFiltered, preFilteredEnd, prefilterTakes}

@@ -7,7 +7,7 @@ ghost use Rattle.history.specs.History.{whole, tails, withTails};
 ghost use Rattle.post_filter.specs.Limits.{filterFits};
 ghost use Rattle.state.specs.Refusal.{lagLeast, lagMost};
 ghost use Rattle.extrapolate.specs.Extrapolate.{order};
-ghost use Rattle.pitch_loss.specs.PitchLoss.{longestFrame, extra, pitchTail, firstTail, bothTails};
+ghost use Rattle.pitch_loss.specs.PitchLoss.{longestFrame, extra, firstTail, bothTails};
 use crate::frame::take_in;
 use extrapolate::ORDER;
 use history::CHANNEL;

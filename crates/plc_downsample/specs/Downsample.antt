@@ -1,13 +1,14 @@
 -- 2:1 downsampling ahead of the lag search, as `pitch_downsample` has it: smoothed, and whitened by a damped predictor of order 4.
 use Prim.Native.Nat.{ℕ, _+_, _*_, _-_}
-use mathlib.Core.Path.{_≡_, _∙_}
+use mathlib.Core.Path.{_≡_, ap, _∙_}
 use mathlib.Core.Bool.{Bool, cond, _&&_}
 use mathlib.Core.List.{List}
 use lib.Dec.{eqb}
-use lib.ListN.{length, getD}
+use lib.ListN.{getD}
 use lib.Ieee.{Float, nan, binary32, add, mul, ofBits}
-use Rattle.loops.specs.Front.{tab, length-tab}
-use Rattle.plc_whiten.specs.Whiten.{whitenLp, length-whitenLp}
+use Rattle.loops.specs.Front.{tab}
+use Rattle.loops.specs.Nan.{add-nan}
+use Rattle.plc_whiten.specs.Whiten.{whitenLp}
 
 -- 0.5
 abbrev pub half32 : Float
@@ -24,8 +25,20 @@ smoothedAt x i =
 unfoldable pub smoothed : List Float → List Float
 smoothed x = tab (smoothedAt x) 1024
 
+unfoldable pub summedAt : List Float → List Float → ℕ → Float
+summedAt x0 x1 i = add binary32 (smoothedAt x0 i) (smoothedAt x1 i)
+
 unfoldable pub smoothedPair : List Float → List Float → List Float
-smoothedPair x0 x1 = tab (λ (i : ℕ). add binary32 (smoothedAt x0 i) (smoothedAt x1 i)) 1024
+smoothedPair x0 x1 = tab (summedAt x0 x1) 1024
+
+-- a NaN of either channel stays one
+pub nan-first : (x0 x1 : List Float) (i : ℕ) → smoothedAt x0 i ≡ nan → summedAt x0 x1 i ≡ nan
+unfolding summedAt add
+nan-first x0 x1 i e = ap (λ z. add binary32 z (smoothedAt x1 i)) e
+
+pub nan-second : (x0 x1 : List Float) (i : ℕ) → smoothedAt x1 i ≡ nan → summedAt x0 x1 i ≡ nan
+unfolding summedAt
+nan-second x0 x1 i e = ap (add binary32 (smoothedAt x0 i)) e ∙ add-nan (smoothedAt x0 i)
 
 -- the lengths that are taken: of each channel's history, and of the samples at half rate
 abbrev pub downsampleTakes : ℕ → ℕ → Bool
@@ -40,11 +53,3 @@ pitchDownsample x = whitenLp (smoothed x)
 
 unfoldable pub pitchDownsamplePair : List Float → List Float → List Float
 pitchDownsamplePair x0 x1 = whitenLp (smoothedPair x0 x1)
-
-pub length-pitchDownsample : (x : List Float) → length (pitchDownsample x) ≡ 1024
-unfolding pitchDownsample smoothed
-length-pitchDownsample x = length-whitenLp (smoothed x) ∙ length-tab _ 1024
-
-pub length-pitchDownsamplePair : (x0 x1 : List Float) → length (pitchDownsamplePair x0 x1) ≡ 1024
-unfolding pitchDownsamplePair smoothedPair
-length-pitchDownsamplePair x0 x1 = length-whitenLp (smoothedPair x0 x1) ∙ length-tab _ 1024

@@ -4,13 +4,12 @@ use mathlib.Core.Bool.{Bool, true, false, cond, _&&_}
 use mathlib.Core.List.{List}
 use Prim.Native.Nat.{ℕ, zero, suc, _+_, _-_, _≤_, _<_}
 use native.Mathlib.Omega.{arith}
-use native.Mathlib.Numerals.{add-one}
 use lib.Dec.{eqb, ltb, leb}
 use lib.ListN.{length, getD, set, length-set, replicate, length-replicate}
 use lib.Seq.{getD-set-same, getD-set-other}
 use lib.Ieee.{Float, nan}
 use borrow.Author.Tests.{eqb-true, eqb-false, ltb-true, ltb-false, le-leb, lt-leb}
-use Rattle.loops.specs.Fold.{foldTo, fold-none, fold-suc, fold-keeps}
+use Rattle.loops.specs.Fold.{foldTo, fold-keeps}
 use Rattle.loops.specs.Reply.{reply, replyIf, reply-lent}
 use Rattle.plc_pad.specs.Past.{past}
 use Rattle.plc_pad.specs.Pad.{Remembers, Holds, rememberedTo, remembered, padTakes}

@@ -9,6 +9,10 @@ use lib.Ieee.{Float, nan, binary32, sub, mul}
 use Rattle.loops.specs.Fold.{foldTo}
 use Rattle.loops.specs.Sum.{sumTo}
 
+-- the order of the predictor, and of the filters that it drives
+abbrev pub order : ℕ
+order = 24
+
 -- the memory stands before place 24, the most recent last
 abbrev pub Remembers : List Float → List Float → Type 0
 Remembers pad mem = (k : ℕ) → k < length mem → getD pad (23 - k) nan ≡ getD mem k nan

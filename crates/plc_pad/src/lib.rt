@@ -1,6 +1,6 @@
 // A filter's memory ahead of its samples in one buffer, so that both are read by one index and nothing is shifted.
 ghost use mathlib.Core.Path.{_≡_};
-ghost use Prim.Native.Nat.{_-_, _≤_, _<_};
+ghost use Prim.Native.Nat.{_-_, _<_};
 ghost use lib.ListN.{length};
 ghost use Rattle.loops.specs.Reply.{reply, replyIf};
 ghost use Rattle.plc_pad.specs.Pad.{remembered, padTakes};

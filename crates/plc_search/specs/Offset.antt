@@ -2,24 +2,18 @@
 use mathlib.Core.Path.{_≡_, refl}
 use mathlib.Core.Bool.{Bool, true, false, cond, _&&_}
 use mathlib.Core.List.{List}
-use Prim.Native.Nat.{ℕ, zero, suc, _+_, _*_, _-_, _≤_, _<_}
+use Prim.Native.Nat.{ℕ, _+_, _*_, _-_, _≤_, _<_}
 use native.Mathlib.Omega.{arith}
 use lib.Dec.{ltb}
 use lib.ListN.{getD}
 use lib.Ieee.{Float, nan, binary32, sub, mul, lt}
 use borrow.Author.Tests.{ltb-true}
-use Rattle.loops.specs.Fold.{foldTo}
+use Rattle.loops.specs.Fold.{fold-holds}
 use Rattle.loops.specs.Logic.{cond-either}
 use Rattle.buffers.specs.Buffers.{zero32}
 use Rattle.plc_best.specs.declared.Best.{Best}
 use Rattle.plc_best.specs.Best.{ranked, considered, sweepTurn, sweepTo, findBestPitch}
 use Rattle.plc_search.specs.Search.{fine, coarseBest, fineBest, seven-tenths, interpolated, refined, pitchSearch}
-
--- what holds at the start and is kept by each turn holds at the end
-pub fold-holds : {A : Type 0} (P : A → Type 0) (f : A → ℕ → A) (a : A) (n : ℕ) → P a → ((s : A) (i : ℕ) → i < n → P s → P (f s i)) → P (foldTo f a n)
-unfolding foldTo
-fold-holds P f a zero h k = h
-fold-holds P f a (suc n) h k = k (foldTo f a n) n (omega arith) (fold-holds P f a n h (λ s i l. k s i (omega arith)))
 
 -- both places are among the first n
 pub record Within (n : ℕ) (b : Best) : Type 0 where

@@ -1,6 +1,6 @@
 // The coarse-to-fine lag search (`pitch_search`) over 1,024 samples at half rate.
 ghost use mathlib.Core.Path.{_≡_};
-ghost use Prim.Native.Nat.{ℕ, _+_, _*_, _-_, _≤_, _<_};
+ghost use Prim.Native.Nat.{_+_, _*_, _-_, _≤_, _<_};
 ghost use lib.ListN.{length};
 ghost use Rattle.loops.specs.Front.{tab};
 ghost use Rattle.plc_search.specs.Search.{everySecond, fineAt, coarseBest, interpolated, refined, pitchSearch};

@@ -1,6 +1,6 @@
 // A window on both ends of 1,024 samples.
 ghost use mathlib.Core.Path.{_≡_};
-ghost use Prim.Native.Nat.{_+_, _-_, _≤_, _<_};
+ghost use Prim.Native.Nat.{_-_, _≤_};
 ghost use lib.ListN.{length};
 ghost use Rattle.plc_window.specs.Window.{windowedEnds};
 

@@ -1,29 +1,25 @@
 -- Laws of plain variables that the proofs cite.
 use mathlib.Core.Path.{_≡_, ap, _∙_, sym}
 use mathlib.Core.List.{List, _++_, append-nil}
-use mathlib.Core.Bool.{Bool, true, false, _&&_}
+use mathlib.Core.Bool.{true, false}
 use Prim.Native.Nat.{ℕ, _+_, _≤_, _-_}
 use native.Mathlib.Omega.{arith}
 use lib.ListN.{length, take, drop, length-drop, drop-of-length-le, take-append-drop}
 use lib.Seq.{length-take-le}
-use lib.Dec.{eqb}
-use lib.Ieee.{Float, binary32, eq, ofBits}
-use borrow.Author.Tests.{eqb-true}
-use Rattle.loops.specs.Logic.{and-true}
+use lib.Ieee.{Float}
 use Rattle.loops.specs.Pick.{pick-true, pick-false}
 use Rattle.buffers.specs.Buffers.{copied, copied-all}
 use Rattle.post_filter.specs.declared.Filter.{Filter}
-use Rattle.post_filter.specs.Limits.{filterFits}
 use Rattle.history.specs.History.{half, overlap}
-use Rattle.prefilter.specs.Comb.{combFilterTo, length-combFilterTo, tapGain, preFiltered, preFilteredEnd, prefilterTakes}
+use Rattle.prefilter.specs.Comb.{combFilterTo, length-combFilterTo, tapGain, skips, preFiltered, preFilteredEnd}
 
 -- a gain of zero leaves all
-pub pre-skip : (f : Filter) (t : List Float) → eq (f .gain) (ofBits binary32 0) ≡ true → t ≡ preFilteredEnd f t
+pub pre-skip : (f : Filter) (t : List Float) → skips (f .gain) ≡ true → t ≡ preFilteredEnd f t
 unfolding preFiltered preFilteredEnd
 pre-skip f t e = sym (take-append-drop half t) ∙ ap (λ z. take half t ++ z) (sym (pick-true _ _ _ e))
 
 -- any other puts the filtered overlap in place of the overlap
-pub pre-put : (f : Filter) (t pre y : List Float) (k : ℕ) (g0 g1 g2 : Float) → eq (f .gain) (ofBits binary32 0) ≡ false
+pub pre-put : (f : Filter) (t pre y : List Float) (k : ℕ) (g0 g1 g2 : Float) → skips (f .gain) ≡ false
     → length t ≡ half + overlap → k ≡ length t - half → (g0 ≡ tapGain f 0) × (g1 ≡ tapGain f 1) × (g2 ≡ tapGain f 2)
     → pre ≡ combFilterTo t (f .period) g0 g1 g2 → y ≡ copied pre (take k (drop half t))
     → take half t ++ (y ++ drop k (drop half t)) ≡ preFilteredEnd f t

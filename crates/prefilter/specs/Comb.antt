@@ -1,12 +1,11 @@
 -- The pre-filter of the overlap, by the taps one pitch period back.
 use mathlib.Core.Path.{_≡_, refl, _∙_, ap}
 use Prim.Native.Nat.{ℕ, _+_, _-_}
-use native.Mathlib.Omega.{arith}
 use mathlib.Core.Bool.{Bool, true, false, cond, _&&_}
 use mathlib.Core.List.{List, _++_}
-use lib.ListN.{getD, length, take, drop, length-append, length-take, length-drop}
+use lib.ListN.{getD, length, take, drop}
 use lib.Dec.{eqb}
-use lib.Ieee.{Float, nan, binary32, add, mul, neg, eq, ofBits}
+use lib.Ieee.{Float, nan, binary32, add, mul, neg, eq, lt, le, ofBits}
 use Rattle.loops.specs.Front.{tab, length-tab}
 use Rattle.history.specs.History.{half, overlap}
 use Rattle.post_filter.specs.declared.Filter.{Filter}
@@ -37,40 +36,44 @@ pub length-combFilterTo : (x : List Float) (t : ℕ) (g0 g1 g2 : Float) → leng
 unfolding combFilterTo
 length-combFilterTo x t g0 g1 g2 = length-tab _ overlap
 
--- the overlap behind the newest samples; a gain of zero, of either sign, leaves it, a NaN does not
+-- a gain of zero, of either sign, skips the filter; a NaN does not
+unfoldable pub skips : Float → Bool
+skips g = eq g (ofBits binary32 0)
+
+-- the overlap behind the newest samples
 unfoldable pub preFiltered : Filter → List Float → List Float → List Float
 preFiltered f new over =
-    cond (eq (f .gain) (ofBits binary32 0)) over (combFilterTo (new ++ over) (f .period) (tapGain f 0) (tapGain f 1) (tapGain f 2))
+    cond (skips (f .gain)) over (combFilterTo (new ++ over) (f .period) (tapGain f 0) (tapGain f 1) (tapGain f 2))
 
 -- both zeros skip it; a NaN and a gain below zero do not
 module _ (f : Filter) (new over : List Float) where
   filtered : List Float
   filtered = combFilterTo (new ++ over) (f .period) (tapGain f 0) (tapGain f 1) (tapGain f 2)
 
-  by-gain : (g : Float) (b : Bool) → eq g (ofBits binary32 0) ≡ b → f .gain ≡ g → preFiltered f new over ≡ cond b over filtered
+  by-gain : (g : Float) (b : Bool) → skips g ≡ b → f .gain ≡ g → preFiltered f new over ≡ cond b over filtered
   unfolding preFiltered filtered
-  by-gain g b e q = ap (λ z. cond z over filtered) (ap (λ z. eq z (ofBits binary32 0)) q ∙ e)
+  by-gain g b e q = ap (λ z. cond z over filtered) (ap skips q ∙ e)
 
   pub zero-skips : f .gain ≡ ofBits binary32 0 → preFiltered f new over ≡ over
-  unfolding eq ofBits
+  unfolding skips eq lt le ofBits
   zero-skips q = by-gain (ofBits binary32 0) true refl q
 
   pub minus-zero-skips : f .gain ≡ neg (ofBits binary32 0) → preFiltered f new over ≡ over
-  unfolding eq neg ofBits
+  unfolding skips eq lt le neg ofBits
   minus-zero-skips q = by-gain (neg (ofBits binary32 0)) true refl q
 
   pub nan-filters : f .gain ≡ nan → preFiltered f new over ≡ combFilterTo (new ++ over) (f .period) (tapGain f 0) (tapGain f 1) (tapGain f 2)
-  unfolding eq filtered
+  unfolding skips eq lt le filtered
   nan-filters q = by-gain nan false refl q
 
   pub minus-one-filters : f .gain ≡ neg (ofBits binary32 0x3f80_0000)
       → preFiltered f new over ≡ combFilterTo (new ++ over) (f .period) (tapGain f 0) (tapGain f 1) (tapGain f 2)
-  unfolding eq neg ofBits filtered
+  unfolding skips eq lt le neg ofBits filtered
   minus-one-filters q = by-gain (neg (ofBits binary32 0x3f80_0000)) false refl q
 
 pub length-preFiltered : (f : Filter) (new over : List Float) → length over ≡ overlap → length (preFiltered f new over) ≡ overlap
 unfolding preFiltered
-length-preFiltered f new over l = go (eq (f .gain) (ofBits binary32 0))
+length-preFiltered f new over l = go (skips (f .gain))
   where
     go : (b : Bool) → length (cond b over (combFilterTo (new ++ over) (f .period) (tapGain f 0) (tapGain f 1) (tapGain f 2))) ≡ overlap
     go true = l

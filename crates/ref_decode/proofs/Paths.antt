@@ -1,28 +1,26 @@
 -- What each path makes: its inner steps never refuse an accepted state.
-use mathlib.Core.Path.{_≡_, refl, ap, ap₂, sym, _∙_, subst}
+use mathlib.Core.Path.{_≡_, refl, ap, ap₂, sym, _∙_}
 use mathlib.Core.Bool.{Bool, true, false, cond, _&&_}
 use mathlib.Core.List.{List}
 use Prim.Native.Nat.{ℕ, _≤_}
 use native.Mathlib.Omega.{arith}
 use lib.ListN.{length}
-use lib.Dec.{leb, eqb}
+use lib.Dec.{eqb}
 use lib.Ieee.{Float}
-use borrow.Author.Tests.{le-leb, eq-eqb, eqb-true, eqb-false}
+use borrow.Author.Tests.{le-leb, eq-eqb, eqb-false}
 use Rattle.loops.specs.Reply.{reply, replyIf, reply-lent}
 use Rattle.history.specs.History.{whole, tails, withTails}
-use Rattle.post_filter.specs.Limits.{filterFits}
 use Rattle.settings.specs.Settings.{frame, stereo, checkSettings}
-use Rattle.state.specs.State.{core, noisy, searches}
-use Rattle.state.specs.Refusal.{lagLeast, lagMost, refusesState, AcceptedState}
+use Rattle.state.specs.State.{core, noisy}
+use Rattle.state.specs.Refusal.{lagLeast, lagMost, AcceptedState}
 use Rattle.state.specs.declared.State.{State}
-use Rattle.state.proofs.Keep.{Ok, ok-start, lag-range, pitch-start, pitch-count, pitch-searches}
+use Rattle.state.proofs.Keep.{ok-start, lag-range, pitch-start, pitch-count, pitch-searches}
 use Rattle.pitch_lag.specs.Lag.{lagOf}
 use Rattle.pitch_predictor.specs.Predictor.{fittedTo}
 use Rattle.pitch_loss.specs.PitchLoss.{pitchTails, pitchTakes}
 use Rattle.noise_energies.specs.Energies.{lowerEnergies, readEnergies}
 use Rattle.noise_loss.specs.Loss.{Noised, noised, afterNoise, noiseTakes}
 use Rattle.loss.specs.Loss.{lowered, blocks, noiseMade, pitchMade, tailsByNoise, tailsByPitch}
-use Rattle.loss.specs.declared.Made.{Made}
 use Rattle.loss.proofs.Lags.{lag-low, lag-high}
 
 module _ (s : State) (h : List Float) (z : AcceptedState s h) where

@@ -10,22 +10,21 @@ use lib.Ieee.{Float}
 use lib.Dec.{eqb}
 use borrow.Author.Tests.{eqb-true, ne-eqb}
 use Rattle.band_quant.specs.Draw.{draws, draws-add}
-use Rattle.history.specs.History.{half, Tails, tails, both, newest}
+use Rattle.history.specs.History.{half, Tails, tails, both}
 use Rattle.history.proofs.Parts.{newest-tails}
 use Rattle.settings.specs.Settings.{frame, stereo, needed, drawsPerLoss}
 use Rattle.state.specs.State.{Core, core, noisy, searches}
 use Rattle.state.specs.Refusal.{AcceptedState}
-use Rattle.settings.specs.declared.Settings.{Settings}
 use Rattle.state.specs.declared.State.{State}
 use Rattle.settings.proofs.Passed.{frame-high}
 use Rattle.state.proofs.Keep.{Ok, ok-start, gate, ok-gate, noisy-more}
 use Rattle.deemphasis.specs.Deemphasis.{Sound, deemphasis}
-use Rattle.noise_loss.specs.Loss.{Blocks, noiseSeed}
+use Rattle.noise_loss.specs.Loss.{noiseSeed}
 use Rattle.loss.specs.declared.Made.{Made}
 use Rattle.loss.specs.Loss.{Outcome, lowered, blocks, noiseMade, pitchMade, made, tailsAfter, historyAfter, frameSound, finish, concealed, refused, answered, loss}
 use Rattle.runs.specs.Run.{Call, called, run, lastState, lastHistory, noiseCount, noiseLosses, EachCall, SameButOldest, ahead, SameAhead, Limited}
 use Rattle.loss.proofs.Keep.{after-tails, ok-after}
-use Rattle.runs.proofs.Noise.{heard, heard-same, newOver, newOverTwo, noise-ahead, noise-over, noise-over-two, noise-draws}
+use Rattle.runs.proofs.Noise.{heard-same, newOver, newOverTwo, noise-ahead, noise-over, noise-over-two, noise-draws}
 
 -- a refused call is no noise loss
 refused-none : (s : State) (h : List Float) (m : ℕ) → noiseCount s (answered (suc m) s h) ≡ 0

@@ -1,11 +1,9 @@
 -- The marked examples, by computation; the draws from the law on every noise loss.
-use mathlib.Core.Path.{_≡_, refl, ap, ap₂, sym, _∙_}
-use mathlib.Core.Bool.{Bool, true, false, cond}
-use mathlib.Core.List.{List}
+use mathlib.Core.Path.{_≡_, refl, ap, _∙_}
+use mathlib.Core.Bool.{cond}
 use Prim.Native.Nat.{ℕ, zero, suc}
 use native.Mathlib.Omega.{arith}
 use lib.ListN.{length}
-use lib.Ieee.{Float}
 use Rattle.float_narrow.specs.Marked.{marked-rounding}
 use Rattle.float_root.specs.Marked.{marked-roots}
 use Rattle.band_quant.specs.Draw.{draws}
@@ -14,14 +12,10 @@ use Rattle.custom_mode.specs.Mode.{edges, edge}
 use Rattle.band_gain.specs.Marked.{gains}
 use Rattle.post_filter.specs.Limits.{filterFits}
 use Rattle.settings.specs.Number.{orElse}
-use Rattle.settings.specs.Settings.{factor, firstBin, stereo, drawsPerLoss, checkSettings}
-use Rattle.state.specs.State.{core, noisy}
+use Rattle.settings.specs.Settings.{factor, firstBin, drawsPerLoss, checkSettings}
 use Rattle.state.specs.Refusal.{refusesState, refusal}
-use Rattle.settings.specs.declared.Settings.{Settings}
-use Rattle.state.specs.declared.State.{State}
-use Rattle.noise_loss.specs.Loss.{noiseSeed}
 use Rattle.loss.specs.Loss.{blocks, noiseMade, pitchMade, made, finish, concealed, refused, answered, loss}
-use Rattle.runs.specs.Marked.{settingsAt, Draws, carrying, MarkedEdges}
+use Rattle.runs.specs.Marked.{settingsAt, Draws, MarkedEdges}
 use Rattle.runs.proofs.Noise.{noise-draws}
 
 -- settings that pass, and the draws of a noise loss there

@@ -12,7 +12,7 @@ use lib.Dec.{eqb}
 use borrow.Author.Tests.{eqb-true, eqb-false}
 use Rattle.band_quant.specs.Draw.{draws, draws-add}
 use Rattle.custom_mode.specs.Mode.{lastEdge}
-use Rattle.history.specs.History.{half, overlap, Tail, Tails, tails, both}
+use Rattle.history.specs.History.{half, overlap, Tails, tails, both}
 use Rattle.history.proofs.Parts.{tails-sized, newest-tails}
 use Rattle.settings.specs.Settings.{factor, frame, stereo, firstBin, drawsPerLoss, checkSettings}
 use Rattle.state.specs.State.{Core, core, noisy}

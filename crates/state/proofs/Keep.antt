@@ -1,5 +1,5 @@
 -- What every state of a run has, and what it is refused by.
-use mathlib.Core.Path.{_≡_, refl, ap, sym}
+use mathlib.Core.Path.{_≡_, refl, sym}
 use mathlib.Core.List.{List}
 use Prim.Native.Nat.{ℕ, zero, suc, _≤_, _<_}
 use native.Mathlib.Omega.{arith}
@@ -7,14 +7,14 @@ use mathlib.Core.Bool.{Bool, cond, true, false, not, _&&_, _||_}
 use lib.ListN.{length}
 use lib.Ieee.{Float}
 use lib.Dec.{leb, eqb}
-use borrow.Author.Tests.{leb-true, leb-false, le-leb, eqb-true, eqb-false, eq-eqb, ne-eqb, not-false}
+use borrow.Author.Tests.{leb-true, leb-false, le-leb, eqb-true, eq-eqb, not-false}
 use Rattle.loops.specs.Logic.{and-true, or-false}
 use Rattle.history.specs.History.{whole}
 use Rattle.post_filter.specs.Limits.{filterFits}
 use Rattle.settings.specs.Number.{orElse, within}
 use Rattle.settings.specs.Settings.{checkSettings, needed}
 use Rattle.state.specs.State.{core, noisy, searches}
-use Rattle.state.specs.Refusal.{lagLeast, lagMost, checkCount, checkLag, checkFilter, checkHistory, checkPcm, refusesState, refusal, AcceptedState}
+use Rattle.state.specs.Refusal.{lagLeast, lagMost, checkCount, checkLag, checkFilter, checkPcm, refusesState, refusal, AcceptedState}
 use Rattle.settings.specs.declared.Settings.{Settings}
 use Rattle.state.specs.declared.State.{State}
 use Rattle.settings.proofs.Passed.{or-zero, passes}

@@ -1,11 +1,11 @@
 -- Words written one after the other, four bytes at a time.
 use mathlib.Core.Path.{_≡_, refl, ap, ap₂, _∙_, sym}
 use mathlib.Core.Bool.{Bool, true, false, cond}
-use mathlib.Core.List.{List, _++_, append-assoc, append-nil}
+use mathlib.Core.List.{List, _++_, append-assoc}
 use Prim.Native.Nat.{ℕ, _+_, _*_, _/_, _%_, _≤_, _<_}
 use native.Mathlib.Omega.{arith}
 use native.Mathlib.Nat.{div-one}
-use lib.ListN.{length, getD, set, take, drop, length-append, drop-of-length-le}
+use lib.ListN.{length, getD, set, take, drop, length-append}
 use lib.Seq.{take-at, drop-at, drop-drop, length-take-le}
 use lib.Dec.{leb}
 use borrow.Author.Tests.{le-leb, lt-leb, leb-true, leb-false}
@@ -13,8 +13,7 @@ use Rattle.loops.specs.Part.{put}
 use Rattle.loops.specs.Reply.{reply, replyIf, reply-lent}
 use Rattle.loops.specs.Pick.{pick-true, pick-false}
 use Rattle.loops.specs.Front.{tab, length-tab, front, tab-none, tab-more, tab-all}
-use lib.Ieee.{Float}
-use Rattle.words.specs.Bytes.{holds, wordAt, byteOf, bytesBy, wordsBytes, floatsBytes}
+use Rattle.words.specs.Bytes.{holds, wordAt, byteOf, bytesBy}
 
 module _ (b : List ℕ) (i : ℕ) where
   pub holds-true : (n : ℕ) → 4 * (i + n) ≤ length b → holds b i n ≡ true

@@ -1,6 +1,5 @@
 use mathlib.Core.Path.{_≡_, ap, _∙_}
 use Prim.Native.Nat.{_≤_, _-_}
-use native.Mathlib.Omega.{arith}
 use lib.ListN.{length, take, length-set}
 use lib.Ieee.{nan}
 use borrow.Author.Needs.{needs}

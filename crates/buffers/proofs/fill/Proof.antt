@@ -2,7 +2,6 @@ use mathlib.Core.Path.{_≡_}
 use Prim.Native.Nat.{_≤_, _-_}
 use lib.ListN.{length, length-set, replicate}
 use borrow.Author.Needs.{needs}
-use lib.Ieee.{binary32, ofBits}
 use Rattle.loops.specs.Front.{front, fill-none, fill-more, fill-all}
 use Rattle.buffers.proofs.fill.Statement.{statement}
 use Rattle.buffers.proofs.fill.Tie as tie

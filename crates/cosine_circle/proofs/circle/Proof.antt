@@ -1,5 +1,5 @@
 -- `cosine_circle::circle` meets its contract: the entries before i are the cosines of their places, and each place lies within 7,680 parts.
-use mathlib.Core.Path.{_≡_, ap, _∙_, sym}
+use mathlib.Core.Path.{_≡_, _∙_, sym}
 use mathlib.Core.Bool.{true}
 use Prim.Native.Nat.{ℕ, _+_, _*_, _/_, _≤_, _-_}
 use native.Mathlib.Omega.{arith}

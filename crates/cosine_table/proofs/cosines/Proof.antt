@@ -1,6 +1,5 @@
 -- `cosine_table::cosines` meets its contract: each literal of the source has the bits that the definition names.
 use mathlib.Core.Path.{refl}
-use mathlib.Core.List.{map}
 use Rattle.cosine_table.specs.Cosines.{cosineBits, cosines}
 use Rattle.cosine_table.proofs.cosines.Statement.{statement}
 use Rattle.cosine_table.proofs.cosines.Tie as tie

@@ -1,4 +1,4 @@
-use mathlib.Core.Path.{_≡_, refl}
+use mathlib.Core.Path.{refl}
 use borrow.Author.Needs.{needs}
 use Rattle.pitch_fit.proofs.Laws.{fit-is}
 use Rattle.pitch_fit.proofs.fit.Statement.{statement}

@@ -5,7 +5,7 @@ use borrow.Author.Needs.{needs}
 use borrow.Author.Tests.{not-true, not-false}
 use Rattle.loops.specs.Reply.{reply-yes, reply-no}
 use Rattle.pitch_loss.specs.PitchLoss.{pitchTakes}
-use Rattle.pitch_loss.proofs.Tails.{Fits, takes-fits}
+use Rattle.pitch_loss.proofs.Tails.{takes-fits}
 use Rattle.pitch_loss.proofs.pitch_loss.Statement.{statement}
 use Rattle.pitch_loss.proofs.pitch_loss.Tie as tie
 

@@ -1,9 +1,8 @@
-use lib.Ieee.{binary32, add}
+use lib.Ieee.{binary32, add, nan}
 use Rattle.loops.specs.Front.{front, tab, tab-none, tab-more, tab-all}
-use Rattle.plc_downsample.specs.Downsample.{smoothedAt, smoothedPair}
-use lib.Ieee.{nan}
-use mathlib.Core.Path.{_≡_, refl, ap, _∙_}
-use Prim.Native.Nat.{ℕ, _≤_, _-_}
+use Rattle.plc_downsample.specs.Downsample.{summedAt, smoothedPair}
+use mathlib.Core.Path.{_≡_, refl, ap, ap₂, _∙_}
+use Prim.Native.Nat.{_≤_, _-_}
 use lib.ListN.{length, length-set}
 use borrow.Author.Needs.{needs}
 use Rattle.plc_downsample.proofs.smooth_pair.Statement.{statement}
@@ -11,7 +10,7 @@ use Rattle.plc_downsample.proofs.smooth_pair.Tie as tie
 
 abbrev Inv-loop : tie.InvT-loop
 Inv-loop x0 x1 x-lp₀ i₀ x-lp i =
-    (i ≤ 1024) × (length x-lp ≡ length x-lp₀) × (x-lp ≡ front (tab (λ (k : ℕ). add binary32 (smoothedAt x0 k) (smoothedAt x1 k)) i) x-lp₀ i)
+    (i ≤ 1024) × (length x-lp ≡ length x-lp₀) × (x-lp ≡ front (tab (summedAt x0 x1) i) x-lp₀ i)
 
 abbrev μ-loop : tie.MeasureT-loop
 μ-loop x0 x1 x-lp₀ i₀ x-lp i =
@@ -40,13 +39,12 @@ loop-less : tie.Need-loop-less Inv-loop μ-loop
 loop-less c = search needs
 
 loop-again : tie.Need-loop-again Inv-loop μ-loop
+unfolding summedAt
 loop-again c =
-    let l = c .before .before .before .loop in
-    let a = c .before .before .before .before .before .before .before .args in (
+    let l = c .before .before .before .loop in (
       search needs,
       simp length-set (l .inv .1),
-      tab-more _ nan _ _ _ (l .inv .2) _
-          (ap (λ z. add binary32 z (c .smooth-at2 .result)) (c .before .smooth-at .ensures) ∙ ap (add binary32 (smoothedAt (a .x0 .now) (l .i))) (c .smooth-at2 .ensures)) (search needs),
+      tab-more _ nan _ _ _ (l .inv .2) _ (ap₂ (add binary32) (c .before .smooth-at .ensures) (c .smooth-at2 .ensures)) (search needs),
     )
 
 same-length : tie.Need-same-length Inv-loop μ-loop

@@ -1,10 +1,8 @@
 -- After k turns the first k values are put there.
-use mathlib.Core.Path.{_≡_, refl, ap, _∙_, sym}
-use mathlib.Core.List.{List}
-use Prim.Native.Nat.{ℕ, _≤_, _-_}
-use lib.ListN.{length, getD, set, length-set}
+use mathlib.Core.Path.{_≡_, refl, sym}
+use Prim.Native.Nat.{_≤_, _-_}
+use lib.ListN.{length, length-set}
 use borrow.Author.Needs.{needs}
-use lib.Ieee.{nan}
 use Rattle.loops.specs.Fold.{fold-none, fold-more}
 use Rattle.loops.specs.Reply.{reply-yes, reply-no}
 use Rattle.plc_pad.specs.Pad.{rememberedTo}

@@ -1,14 +1,12 @@
-use mathlib.Core.Path.{_≡_, refl, ap, _∙_}
-use mathlib.Core.List.{List}
-use Prim.Native.Nat.{ℕ}
-use lib.Ieee.{Float}
+use mathlib.Core.Path.{refl}
 use borrow.Author.Needs.{needs}
-use Rattle.prefilter.specs.Comb.{combFilterTo, tapGain}
+use Rattle.prefilter.specs.Comb.{skips}
 use Rattle.prefilter.proofs.Laws.{pre-skip, pre-put}
 use Rattle.prefilter.proofs.filter_overlap.Statement.{statement}
 use Rattle.prefilter.proofs.filter_overlap.Tie as tie
 
 returns : tie.Need-returns
+unfolding skips
 returns c = pre-skip _ _ (c .if1 .taken)
 
 cast-period : tie.Need-cast-period
@@ -42,6 +40,7 @@ same-length : tie.Need-same-length
 same-length c = search needs
 
 returns-2 : tie.Need-returns-2
+unfolding skips
 returns-2 c =
     let a = c .before .before .before .before .before .before .before .before .before .before .before .before .before .before .args in
     let g = c .before .before .before .before .before .before .before .tap-gains in

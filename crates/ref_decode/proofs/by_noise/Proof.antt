@@ -2,7 +2,6 @@
 use native.Mathlib.Omega.{arith}
 use borrow.Author.Tests.{le-leb, lt-leb}
 use Rattle.state.specs.State.{noisy}
-use borrow.Author.Needs.{needs}
 use Rattle.ref_decode.proofs.by_noise.Statement.{statement}
 use Rattle.ref_decode.proofs.by_noise.Tie as tie
 

@@ -6,7 +6,7 @@ use lib.ListN.{length}
 use borrow.Author.Needs.{needs}
 use borrow.Author.Tests.{not-true, not-false}
 use Rattle.loops.specs.Reply.{reply-yes, reply-no}
-use Rattle.mdct.specs.Imdct.{takes, takes-no-size, takes-no-room, imdctReply}
+use Rattle.mdct.specs.Imdct.{takes-frame, takes-no-size, takes-no-room, imdctReply}
 use Rattle.cosine_circle.specs.Circle.{isFrameSize, IsCircle}
 use Rattle.cosine_circle.proofs.Circles.{circle-is}
 use Rattle.mdct.proofs.imdct.imdct_naive_f32.Statement.{statement}
@@ -49,7 +49,7 @@ returns-3 c =
     let o = c .before .before .before .before .before .before .before in
     let a = o .before .before .before .before .args in
     let m : length (a .out .now) ≡ 2 * length (a .spectrum .now) = search needs in
-    let f = takes _ _ (sym (o .before .is-frame-size .ensures) ∙ not-false _ (o .if1 .left)) m in
+    let f = takes-frame _ _ (sym (o .before .is-frame-size .ensures) ∙ not-false _ (o .if1 .left)) m in
     reply-yes _ _ _ f (c .before .before .outputs .ensures)
 
 pub imdct-naive-f32-spec : {M : Type 1} → statement M

@@ -1,4 +1,3 @@
-use mathlib.Core.Path.{_≡_}
 use borrow.Author.Needs.{needs}
 use Rattle.pitch_loss.proofs.Tails.{one-is}
 use Rattle.pitch_loss.proofs.channels.conceal_one.Statement.{statement}

@@ -2,7 +2,7 @@ use mathlib.Core.Path.{_≡_, _∙_}
 use mathlib.Core.List.{List}
 use Prim.Native.Nat.{_+_}
 use native.Mathlib.Omega.{arith}
-use lib.ListN.{length, take, drop, length-drop}
+use lib.ListN.{length, drop, length-drop}
 use lib.Seq.{length-take-le}
 use lib.Ieee.{Float}
 use borrow.Author.Needs.{needs}
