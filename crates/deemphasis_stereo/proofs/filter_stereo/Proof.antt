@@ -1,6 +1,6 @@
-use mathlib.Core.Path.{_≡_, ap, ap₂, _∙_}
+use mathlib.Core.Path.{_≡_, ap, ap₂, _∙_, sym, subst}
 use mathlib.Core.List.{List, [], _∷_}
-use Prim.Native.Nat.{ℕ, _+_, _≤_, _-_, _*_, _/_}
+use Prim.Native.Nat.{ℕ, _+_, _≤_, _<_, _-_, _*_, _/_}
 use native.Mathlib.Omega.{arith}
 use lib.ListN.{length, set, length-set}
 use borrow.Author.Needs.{needs}
@@ -60,7 +60,7 @@ shared-slice-read-pcm-value c =
     let e = inside (c .before) in search needs
 
 pcm-value-requires : tie.Need-pcm-value-requires Inv-loop2 μ-loop2 Inv-loop μ-loop
-pcm-value-requires c κs = search needs
+pcm-value-requires c κs = tt
 
 mul-pcm : tie.Need-mul-pcm Inv-loop2 μ-loop2 Inv-loop μ-loop
 mul-pcm c = search needs
@@ -72,8 +72,7 @@ slice-write-pcm : tie.Need-slice-write-pcm Inv-loop2 μ-loop2 Inv-loop μ-loop
 slice-write-pcm c = search needs
 
 mul-pcm-value-2 : tie.Need-mul-pcm-value-2 Inv-loop2 μ-loop2 Inv-loop μ-loop
-mul-pcm-value-2 c =
-    let e = inside (c .before .before) in search needs
+mul-pcm-value-2 c = mul-pcm-value (c .before .before)
 
 shared-slice-read-pcm-value-2 :
     tie.Need-shared-slice-read-pcm-value-2 Inv-loop2 μ-loop2 Inv-loop μ-loop
@@ -81,7 +80,7 @@ shared-slice-read-pcm-value-2 c =
     let e = inside (c .before .before .before) in search needs
 
 pcm-value-requires-2 : tie.Need-pcm-value-requires-2 Inv-loop2 μ-loop2 Inv-loop μ-loop
-pcm-value-requires-2 c κs = search needs
+pcm-value-requires-2 c κs = tt
 
 mul-pcm-3 : tie.Need-mul-pcm-3 Inv-loop2 μ-loop2 Inv-loop μ-loop
 mul-pcm-3 c = search needs
@@ -112,23 +111,29 @@ shared-slice-read-next-memory :
 shared-slice-read-next-memory c = search needs
 
 next-memory-requires : tie.Need-next-memory-requires Inv-loop2 μ-loop2 Inv-loop μ-loop
-next-memory-requires c κs = search needs
+next-memory-requires c κs = tt
 
 mul-next-memory-2 : tie.Need-mul-next-memory-2 Inv-loop2 μ-loop2 Inv-loop μ-loop
-mul-next-memory-2 c = search needs
+mul-next-memory-2 c = mul-next-memory (c .before .before)
 
 shared-slice-read-next-memory-2 :
     tie.Need-shared-slice-read-next-memory-2 Inv-loop2 μ-loop2 Inv-loop μ-loop
-shared-slice-read-next-memory-2 c = search needs
+shared-slice-read-next-memory-2 c =
+    let a = c .before .before .before .before .before .before .before .before .before .before .before .before .before .before in
+    subst (λ k. c .before .before .before .before .loop2 .j < k) (sym (a .pre .0)) (shared-slice-read-next-memory (c .before .before))
 
 next-memory-requires-2 : tie.Need-next-memory-requires-2 Inv-loop2 μ-loop2 Inv-loop μ-loop
-next-memory-requires-2 c κs = search needs
+next-memory-requires-2 c κs = tt
 
 add-j : tie.Need-add-j Inv-loop2 μ-loop2 Inv-loop μ-loop
 add-j c = search needs
 
+-- one sample less is left
+fewer : (n j : ℕ) → j < n → n - (j + 1) < n - j
+fewer n j h = omega arith
+
 loop2-less : tie.Need-loop2-less Inv-loop2 μ-loop2 Inv-loop μ-loop
-loop2-less c = search needs
+loop2-less c = fewer _ _ (c .before .before .before .before .loop2-test .taken)
 
 loop2-again : tie.Need-loop2-again Inv-loop2 μ-loop2 Inv-loop μ-loop
 loop2-again c =
