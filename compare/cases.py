@@ -9,9 +9,6 @@ import states as st
 import words as w
 from ops import GROUPS, OPS
 
-MEANS = [6.4375, 6.25, 5.75, 5.3125, 5.0625, 4.8125, 4.5, 4.375, 4.875, 4.6875, 4.5625, 4.4375,
-         4.875, 4.625, 4.3125, 4.5, 4.375, 4.625, 4.75, 4.4375, 3.75]
-
 
 def unlike_zeros(x, y):
     return (x | y) & 0x7FFFFFFF == 0 and x != y
@@ -142,6 +139,9 @@ class Cases:
             yield "hostile words", x
         for _ in range(few):
             yield "random words", w.random_words(rng, count)
+        yield "zeros", array("I", w.ZEROS * (count // 2))
+        for _ in range(few):
+            yield "zeros", self.states.zero_words(rng, count)
 
     def coefficients(self, rng, count):
         draw = rng.random()
@@ -199,6 +199,9 @@ class Cases:
             yield "early stop", array("I", stop + [0] * (count - 5))
         for _ in range(self.few * 5):
             yield "early stop", w.float_words(self.at_the_stop(rng, count))
+        for first in (0x3F800000, 0xBF800000, *w.ZEROS):
+            for rest in w.ZEROS:
+                yield "zeros", array("I", [first] + [rest] * (count - 1))
         for _ in range(self.few * 2):
             lags = array("I", [rng.choice(w.HOSTILE) if rng.random() < 0.3 else
                                w.bits(rng.gauss(0, 1)) for _ in range(count)])
@@ -326,7 +329,7 @@ class Cases:
             yield from self.gains(rng)
 
     def gains(self, rng):
-        mean = lambda: w.bits(rng.choice(MEANS))
+        mean = lambda: w.bits(rng.choice(w.MEANS[:21]))
         for x in w.HOSTILE:
             yield "hostile words", [x, mean()]
             yield "hostile words", [x, 0]

@@ -21,3 +21,5 @@ CASES = {301: [61, 1302], 305: [15, 121, 704], 801: [15, 220]}
 STATES = [361, 1268, 2030, 5961]
 SUMS = [0xB338A6B0, 0xB4CFBF13]
 TRUNCATED = [0xBD03BAC0, 0xBD4DC400, 0xBD4F9280, 0xBD51B640, 0xBDAE0A80, 0xBDC665C0]
+# Places on the way between two states, by kind and number, at the edge of a choice.
+EDGES = []
