@@ -3,7 +3,6 @@ import math
 from array import array
 from random import Random
 
-import halfway
 import kept
 import states as st
 import words as w
@@ -18,12 +17,11 @@ class Cases:
     """`few` is the number of cases of a heavy op and family, `many` of a light one."""
 
     series = {}  # by op: how many cases one turn of its series has
-    halfway = halfway.Halfway()
 
     def __init__(self, seed, few, many, states=None):
         self.seed, self.few, self.many = seed, few, many
         self.states = states or st.States(1)
-        self.sounds = self.states.sounds
+        self.sounds, self.halfway = self.states.sounds, self.states.halfway
         self.last = (None, None)
 
     def group(self, name):
@@ -441,18 +439,42 @@ class Cases:
             return
         for family in self.states.categories():
             for s in self.states.make(family, self.few, self.seed):
-                need = 1920
-                if s[st.LM] < 4 and s[st.CHANNELS] < 3 and 0 < s[st.DOWNSAMPLE] < 7:
-                    need = s[st.CHANNELS] * (120 << s[st.LM]) // s[st.DOWNSAMPLE]
+                need = self.needed(s)
                 if op == 1001:
                     lent = rng.choice([need, need, need + 1, 2000, max(need, 1) - 1, 0])
                     history = rng.choice([4336, 4336, 4336, 4336, 4335, 4337])
                     yield family, array("I", [lent, history]) + s
                 else:
                     n = rng.choice([0, 12, 13, 16, 16])
-                    lent = [rng.choice([need, need, need, 1920, max(need, 1) - 1]) if i < n else 0
-                            for i in range(16)]
-                    yield family, array("I", [n, *lent]) + s
+                    lent = [rng.choice([need, need, need, 1920, max(need, 1) - 1]) for _ in range(n)]
+                    yield family, self.run_case(lent, s)
+        if op == 1002:
+            yield from self.long_runs(rng)
+
+    def needed(self, s):
+        """How many samples a loss writes; of a state that is refused, at most 1,920."""
+        if s[st.LM] > 3 or s[st.CHANNELS] > 2 or not 0 < s[st.DOWNSAMPLE] < 7:
+            return 1920
+        return s[st.CHANNELS] * (120 << s[st.LM]) // s[st.DOWNSAMPLE]
+
+    def run_case(self, lent, s):
+        return array("I", [len(lent), *lent, *[0] * (16 - len(lent))]) + s
+
+    def long_runs(self, rng):
+        """12 to 16 losses from count 0, each lm and channel count: five by pitch, then by noise, or
+        all by noise from start 17; in every third one or two buffers are a sample short."""
+        kinds = ["tone", "voice", "drum", "noise", "hiss", "near ties", "swelling", "filters",
+                 "changing cycles", "mixed sizes"]
+        for turn in range(40):
+            s = self.states.make(kinds[turn % 10], 1, f"{self.seed} run {turn}")[0]
+            s[st.LM], s[st.CHANNELS], s[st.LOSSES] = turn % 4, 1 + turn // 4 % 2, 0
+            if turn % 5 == 4:
+                s[st.START], s[st.END] = 17, rng.choice([21, 19])
+            lent = [self.needed(s)] * rng.randint(12, 16)
+            if turn % 3 == 0:
+                for at in rng.sample(range(len(lent)), rng.randint(1, 2)):
+                    lent[at] -= 1
+            yield "long runs", self.run_case(lent, s)
 
     def silent(self, rng):
         """Heads alone: every limit and every pair of broken ones, with buffers of all lengths."""

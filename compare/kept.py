@@ -18,8 +18,33 @@ GUARDS = [(77, 0xBF7F1393), (233, 0xBF5A5603)]
 # Bands and log energies whose gain differs where floor is taken as truncation.
 ENERGIES = [(20, 0xC0720EEB), (0, 0xC0CF9B88), (0, 0xC0CF9F25), (20, 0xC07346D9)]
 CASES = {301: [61, 1302], 305: [15, 121, 704], 801: [15, 220]}
+# Records of a category beyond the default size, by place.
+FAR = [("overflow's edge", 238), ("overflow's edge", 139), ("faint", 341)]
 STATES = [361, 1268, 2030, 5961]
 SUMS = [0xB338A6B0, 0xB4CFBF13]
 TRUNCATED = [0xBD03BAC0, 0xBD4DC400, 0xBD4F9280, 0xBD51B640, 0xBDAE0A80, 0xBDC665C0]
 # Places on the way between two states, by kind and number, at the edge of a choice.
-EDGES = []
+EDGES = [
+    ("stop", 45, 1026744566886),  # equal error stops; 0.001's next f32
+    ("lag", 2, 127524677872),  # 0.7's f32 before (earlier); refinement at a tie (earlier)
+    ("lag", 2, 127525770444),  # 0.7's next f32 (earlier)
+    ("lag", 2, 445112133241),  # first energy's one added last
+    ("lag", 7, 440497974622),  # running energy by sum and difference
+    ("lag", 8, 905341108681),  # 0.7's f32 before (later)
+    ("lag", 9, 314829872512),  # refinement at a tie (later); refinement in f64 (later)
+    ("lag", 9, 721522057109),  # 0.7's next f32 (later)
+    ("lag", 10, 431885518943),  # running energy fused
+    ("lag", 10, 1085322516239),  # 0.008's f32 before (search)
+    ("lag", 11, 180910808569),  # lag windowing fused (search); lag windowing in f64 (search)
+    ("lag", 18, 233325774),  # 0.008's next f32 (search)
+    ("lag", 25, 427638915545),  # refinement in f64 (earlier)
+    ("guard", 4, 827414241418),  # 0.2's next f32
+    ("guard", 14, 975122597842),  # guard compared in f64; guard lets equal through; guard as 5 s1 > s2
+    ("guard", 21, 1080547535932),  # 0.2's f32 before
+    ("quiet lag", 44, 1086590427554),  # running energy raised to 1's next f32
+]
+# Records, by category and place at the default size, that between them tell every wrong build apart
+# which whole records tell apart; found by `compare/hunt --cover`.
+STORED = []
+# By lm the cosine whose last bit a wrong build turns.
+COSINES = [1000, 1004, 1002, 1001]

@@ -53,28 +53,25 @@ def next_entry(text, table, index):
     return text[: at + number.start()] + above + text[at + number.end() :]
 
 
-def answers(program, mode, data):
-    """What a program writes, or None where it breaks down."""
-    done = subprocess.run([program, mode], input=data, capture_output=True)
-    return done.stdout if done.returncode == 0 else None
+def output(program, mode, data):
+    """What a build writes, up to where it breaks down if it does."""
+    return subprocess.run([program, mode], input=data, capture_output=True).stdout
 
 
 def in_records(wrong, records, right):
     """The record categories, one after the other, that tell a wrong build from the right one."""
     for category, group in records.items():
-        if answers(wrong, "records", b"".join(s.tobytes() for s in group)) != right[category]:
+        if output(wrong, "records", b"".join(s.tobytes() for s in group)) != right[category]:
             yield category
 
 
 def in_cases(wrong, todo, right):
     """The ops and case families that do."""
     for op, group in todo.items():
-        got = answers(wrong, "cases", b"".join(map(beside.pack, group)))
-        if got is None:
-            yield f"{op} breaks down"
-        elif got != right[op]:
+        got = output(wrong, "cases", b"".join(map(beside.pack, group)))
+        if got != right[op]:
             size = 4 * cases.OPS[op].words_out
-            parts = range(0, len(got), size)
+            parts = range(0, len(right[op]), size)
             yield from {f"{op} {case[1]}": None for at, case in zip(parts, group)
                         if got[at : at + size] != right[op][at : at + size]}
 
@@ -87,6 +84,27 @@ def tool(parts, name):
     return build.compile_rust(text, "mutants/" + re.sub(r"\W+", "_", name), quick=True)
 
 
+# The groups of ops whose answers an edit of a piece can change, whole losses aside.
+REACHED = {
+    "plc": ["filters", "search", "pitch"],
+    "band_quant": ["bands", "noise"],
+    "mdct": ["transform", "pitch", "noise"],
+    "custom_mode": ["modes", "noise"],
+    "preemph": ["frames"],
+    "ref_decode": ["modes", "pitch", "noise"],
+    "methods": ["search", "frames", "pitch", "noise", "losses"],
+    "tables": ["modes", "transform", "noise"],
+    "own": ["modes", "transform", "noise", "losses"],
+}
+
+
+def reached(todo, slip):
+    """The cases that can tell a slip apart."""
+    pieces = {old.split()[0] if piece == "entry" else piece for piece, old, *_ in slip}
+    groups = {group for piece in pieces for group in REACHED[piece]}
+    return {op: group for op, group in todo.items() if cases.OPS[op].group in groups}
+
+
 def by_op(seed, scale):
     maker = cases.Cases(seed, scale, 300)
     todo = defaultdict(list)
@@ -94,6 +112,25 @@ def by_op(seed, scale):
         for case in maker.group(name):
             todo[case[0]].append(case)
     return todo
+
+
+def stored(folder):
+    """Which wrong builds the stored samples of `conceal` and `cases` tell apart."""
+    samples = {}
+    for program, mode in (("conceal", "records"), ("cases", "cases")):
+        crate = beside.ROOT / "crates" / program
+        samples[program] = mode, (crate / "stdin").read_bytes(), (crate / "stdout").read_bytes()
+    parts = build.put_standins(build.pieces(folder))
+    told = defaultdict(set)
+    for name in SLIPS:
+        wrong = tool(parts, name)
+        for program, (mode, data, right) in samples.items():
+            if output(wrong, mode, data) != right:
+                told[program].add(name)
+        if not any(name in names for names in told.values()):
+            print(f"MISSED by the stored samples: {name}", flush=True)
+    print(f"{len(set().union(*told.values()))} of {len(SLIPS)} wrong builds told apart by the stored samples: "
+          + ", ".join(f"{len(names)} by that of {program}" for program, names in told.items()))
 
 
 def report(folder, standin, seed, scale, names):
@@ -104,16 +141,16 @@ def report(folder, standin, seed, scale, names):
     todo = by_op(seed, scale)
     maker = states.States(seed)
     records = {name: maker.make(name, 25 * scale) for name in maker.categories()}
-    right = {op: answers(standin, "cases", b"".join(map(beside.pack, group)))
+    right = {op: output(standin, "cases", b"".join(map(beside.pack, group)))
              for op, group in todo.items()}
-    right |= {name: answers(standin, "records", b"".join(s.tobytes() for s in group))
+    right |= {name: output(standin, "records", b"".join(s.tobytes() for s in group))
               for name, group in records.items()}
     parts = build.put_standins(build.pieces(folder))
     caught = whole = 0
     for name in chosen:
         wrong = tool(parts, name)
         found = list(islice(in_records(wrong, records, right), 1 if every else None))
-        ops = [] if every and found else list(islice(in_cases(wrong, todo, right), 1 if every else None))
+        ops = [] if every and found else list(islice(in_cases(wrong, reached(todo, SLIPS[name]), right), 1 if every else None))
         caught += bool(found or ops)
         whole += bool(found)
         print(f"{'caught' if found or ops else 'MISSED'}: {name}; records: {', '.join(found) or 'none'};"

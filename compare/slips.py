@@ -274,7 +274,6 @@ SLIPS = {
         ("plc", "syy += y[i + len] * y[i + len] -", "syy += y[i + len - 1] * y[i + len - 1] -")],
     "running energy's NaN let through": [("plc", "syy = syy.max(1.0);", "if syy < 1.0 { syy = 1.0; }")],
     "running energy raised to 1's next f32": [("plc", "syy = syy.max(1.0);", f"syy = syy.max({up(1)});")],
-    "NaN correlation counts": [("plc", "if xcorr[i] > 0.0 {", "if !(xcorr[i] <= 0.0) {")],
     "candidates compared by quotients": [
         ("plc", "num * best_den[1] > best_num[1] * syy", "num / syy > best_num[1] / best_den[1]"),
         ("plc", "num * best_den[0] > best_num[0] * syy", "num / syy > best_num[0] / best_den[0]")],
@@ -363,12 +362,7 @@ SLIPS = {
     "1e-15 as 1e-14": [("band_quant", "1e-15f64", "1e-14f64")],
     "band's root in f64": [("band_quant", "gain / (e as f32).sqrt()", "gain / e.sqrt() as f32")],
     "band's values scaled in f64": [("band_quant", "*v *= g;", "*v = (f64::from(*v) / e.sqrt()) as f32;")],
-    "band's energy fused": [
-        ("band_quant", "e += f64::from(v) * f64::from(v);", "e = f64::from(v).mul_add(f64::from(v), e);")],
     "band's last value left out of its energy": [("band_quant", "in x.iter() {", "in x[..x.len() - 1].iter() {")],
-    "1e-15 added last": [
-        ("band_quant", "let mut e = 1e-15f64;", "let mut e = 0f64;"),
-        ("band_quant", "let g = gain", "e += 1e-15;\n    let g = gain")],
     # Noise path
     "noise shifted by 19": [("methods", "seed as i32 >> 20", "seed as i32 >> 19")],
     "noise unsigned": [("methods", "seed as i32 >> 20", "seed >> 20")],

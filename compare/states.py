@@ -4,6 +4,7 @@ from array import array
 from functools import lru_cache
 from random import Random
 
+import halfway
 import kept
 import words as w
 
@@ -19,6 +20,7 @@ class States:
     def __init__(self, seed):
         self.seed = seed
         self.sounds = w.Sounds(1)
+        self.halfway = halfway.Halfway()
 
     def categories(self):
         return {
@@ -38,6 +40,7 @@ class States:
             "overflow's edge": self.overflow_edge,
             "zeros": self.zeros,
             "silent bands": self.silent_bands,
+            "cosines": self.cosines,
             "one place": self.one_place,
             "mixed sizes": self.mixed_sizes,
             "faint": self.faint,
@@ -56,7 +59,8 @@ class States:
     def make(self, category, count, seed=None):
         """`count` states of a category; the same for the same seed, whatever else was made."""
         if category == "kept":
-            return [self.kept(k) for k in kept.STATES] + self.guards() + self.floors()
+            far = [self.make(name, place + 1)[place] for name, place in kept.FAR]
+            return [self.kept(k) for k in kept.STATES] + far + self.guards() + self.floors()
         if category == "edges":
             return [self.between(kind, k, n) for kind, k, n in kept.EDGES]
         if category == "limits":
@@ -80,7 +84,11 @@ class States:
         if kind == "guard":
             s[LOSSES] = rng.randint(1, 4)
             return s, w.stable_predictor(rng, 0.97) * 2
-        return s, self.sounds.part(rng, rng.choice(["tone", "voice", "drum", "hiss"]), 4336)
+        other = self.sounds.part(rng, rng.choice(["tone", "voice", "drum", "hiss"]), 4336)
+        if kind == "quiet lag" or rng.random() < 0.3:
+            level = 10 ** rng.uniform(-7 if kind == "quiet lag" else -2.5, 0)
+            s[HISTORY:], other = self.scaled(s[HISTORY:], level), self.scaled(other, level)
+        return s, other
 
     def between(self, kind, k, n):
         """A state n / 2^40 of the way between two: on that way the lag turns, the predictor's fit
@@ -219,9 +227,19 @@ class States:
         return s
 
     def overflow_edge(self, rng):
-        """Pulses, or noise, whose energy is about the largest f32: at full rate, or halved."""
+        """Pulses, or noise, whose energy is about the largest f32: at full rate, or halved. Or a pulse
+        behind a small one, whose square the search's filters take beyond it, in silence or noise."""
         s = self.base(rng, "silence")
         s[LOSSES] = rng.choice([0, 0, 0, 1, 4])
+        if rng.random() < 0.4:
+            level = 10 ** rng.choice([rng.uniform(0, 17), rng.uniform(-30, 0)])
+            s[HISTORY:] = array("I", bytes(4 * 4336))
+            for at in rng.sample(range(HISTORY, STATE), rng.choice([20, 200, 4336])):
+                s[at] = w.bits(level * rng.gauss(0, 1))
+            at = HISTORY + 2 * rng.randrange(2, 320)
+            s[at - 3 : at + 2] = w.float_words([0, rng.uniform(0.5, 3) * 1e18, 0, rng.uniform(3.6, 3.68) * 1e19, 0])
+            s[LOSSES], s[CHANNELS] = 0, 1
+            return s
         for c in range(2):
             count = rng.choice([1, 2, 3, 8, 2048])
             top = math.sqrt(rng.uniform(0.2, 1.3) * 3.4e38 / count) * rng.choice([1, 1.4, 2])
@@ -253,12 +271,24 @@ class States:
         s[DEEMPH:LPC] = self.zero_words(rng, 2)
         s[LPC:HISTORY] = self.zero_words(rng, 48)
         s[HISTORY:] = self.zero_words(rng, 4336)
+        if rng.random() < 0.15:
+            return self.folded_zeros(rng, s)
         for _ in range(rng.choice([0, 1, 3])):
             s[LPC + rng.randrange(48)] = w.bits(rng.choice([0.5, -0.5, 1e-30]))
         for c in range(2):
             for _ in range(rng.choice([0, 1, 2, 5])):
                 at = HISTORY + 2168 * c + rng.randrange(1024, 2048)
                 s[at] = w.bits(rng.choice([1, -1, 1000, 1e-20]))
+        return s
+
+    def folded_zeros(self, rng, s):
+        """A predictor of +0 over a history of -0: the synthesis is -0 at each 25th sample from the
+        start and from a pulse on, which is placed so that two of them fold onto each other."""
+        s[LM], s[LOSSES], s[LAG] = 0, 1, 720
+        s[LPC:HISTORY] = array("I", bytes(4 * 48))
+        s[HISTORY:] = array("I", [0x80000000]) * 4336
+        for c in range(2):
+            s[HISTORY + 2168 * c + 1328 + 10 + 25 * rng.randint(5, 8)] = w.bits(-1)
         return s
 
     def silent_bands(self, rng):
@@ -273,6 +303,17 @@ class States:
         s[HISTORY:] = self.zero_words(rng, 4336)
         return s
 
+    def cosines(self, rng):
+        """Noise losses of two bands alone, with which one cosine's last bit shows."""
+        s = self.base(rng, "silence")
+        s[LM], s[START], s[END], s[DOWNSAMPLE], s[LOSSES] = rng.randrange(4), 0, 2, 1, 5
+        usual = kept.COSINES[s[LM]]
+        entry = rng.choice([usual, usual, rng.choice(self.halfway.entries(120 << s[LM]))])
+        s[SEED], *energies = self.halfway.noise_loss(rng, s[LM], entry, rng.random() < 0.5)
+        s[BACKGROUND : BACKGROUND + 2] = array("I", energies)
+        s[HISTORY:] = array("I", bytes(4 * 4336))
+        return s
+
     def one_place(self, rng):
         """A NaN, an infinity, a very large or a zero in one place only, often at an edge."""
         s = self.base(rng, self.kind(rng))
@@ -284,8 +325,9 @@ class States:
                             history + rng.randrange(1024, 2048), history + rng.randrange(1024, 2048),
                             history + rng.randrange(2048, 2168), rng.randrange(DEEMPH, LPC),
                             rng.randrange(LPC, HISTORY), rng.randrange(COARSE, DEEMPH), GAIN])
-        s[place] = rng.choice(w.NANS[:2] + w.INFINITIES + w.ZEROS + [
+        s[place] = rng.choice(w.NANS[:4] + w.INFINITIES + w.ZEROS + [
             w.bits(rng.choice([1, -1]) * 10.0 ** rng.randint(5, 19)), w.bits(3e38)])
+        s[LAG] = rng.choice([720, 719, 600, 513, s[LAG]])
         return s
 
     def mixed_sizes(self, rng):
@@ -301,15 +343,26 @@ class States:
         return s
 
     def faint(self, rng):
-        """Sound so faint that the floors of 1 and 10 count."""
+        """Sound so faint that the floors of 1 and 10 count, or subnormal under one large pulse, which
+        brings their last bits into the correlations."""
         s = self.base(rng, "tone")
         s[LOSSES] = rng.choice([0, 0, 0, 1])
+        if rng.random() < 0.2:
+            s[LOSSES] = 0
+            s[HISTORY:] = array("I", [rng.choice(w.ZEROS) | rng.randrange(1, 40) for _ in range(4336)])
+            s[HISTORY + rng.randrange(1960, 2048)] = w.bits(10 ** rng.uniform(16, 19))
+            return s
         for c in range(2):
-            kind = rng.choice(["tone", "voice", "hiss", "noise"])
-            x = array("f", self.sounds.part(rng, kind, 2168).tobytes())
-            level = 10 ** rng.uniform(-3, 0) / (max(map(abs, x)) or 1)
-            s[HISTORY + 2168 * c : HISTORY + 2168 * (c + 1)] = w.float_words([level * v for v in x])
+            kind = rng.choice(["tone", "voice", "hiss", "hiss", "noise"])
+            part = self.sounds.part(rng, kind, 2168)
+            s[HISTORY + 2168 * c : HISTORY + 2168 * (c + 1)] = self.scaled(part, 10 ** rng.uniform(-3, 0))
         return s
+
+    def scaled(self, part, level):
+        """A sound whose largest sample has the given size."""
+        x = array("f", part.tobytes())
+        level /= max(map(abs, x)) or 1
+        return w.float_words([level * v for v in x])
 
     def level_cycles(self, rng):
         """Cycles in small whole numbers, all alike or one of another size: energies tie, and sums
