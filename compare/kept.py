@@ -17,7 +17,7 @@ STOPS = [
 GUARDS = [(77, 0xBF7F1393), (233, 0xBF5A5603)]
 # Bands and log energies whose gain differs where floor is taken as truncation.
 ENERGIES = [(20, 0xC0720EEB), (0, 0xC0CF9B88), (0, 0xC0CF9F25), (20, 0xC07346D9)]
-CASES = {301: [61, 1302], 305: [15, 121, 704], 801: [15, 220]}
+CASES = {301: [69, 1488], 305: [15, 133, 780], 801: [15, 220]}
 # Records of a category beyond the default size, by place.
 FAR = [("overflow's edge", 238), ("overflow's edge", 139), ("faint", 341)]
 STATES = [361, 1268, 2030, 5961]

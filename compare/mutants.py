@@ -1,7 +1,7 @@
 """Deliberately wrong builds of the Rust, one slip of slips.py each, and which inputs tell them apart."""
 import re
 import subprocess
-from collections import defaultdict
+from collections import Counter, defaultdict
 from itertools import islice
 
 import beside
@@ -115,22 +115,23 @@ def by_op(seed, scale):
 
 
 def stored(folder):
-    """Which wrong builds the stored samples of `conceal` and `cases` tell apart."""
+    """Which wrong builds the stored sample of `conceal` tells apart, and which of the others that of
+    `cases` does."""
     samples = {}
     for program, mode in (("conceal", "records"), ("cases", "cases")):
         crate = beside.ROOT / "crates" / program
         samples[program] = mode, (crate / "stdin").read_bytes(), (crate / "stdout").read_bytes()
     parts = build.put_standins(build.pieces(folder))
-    told = defaultdict(set)
+    told = Counter()
     for name in SLIPS:
         wrong = tool(parts, name)
-        for program, (mode, data, right) in samples.items():
-            if output(wrong, mode, data) != right:
-                told[program].add(name)
-        if not any(name in names for names in told.values()):
-            print(f"MISSED by the stored samples: {name}", flush=True)
-    print(f"{len(set().union(*told.values()))} of {len(SLIPS)} wrong builds told apart by the stored samples: "
-          + ", ".join(f"{len(names)} by that of {program}" for program, names in told.items()))
+        by = next((program for program, (mode, data, right) in samples.items()
+                   if output(wrong, mode, data) != right), None)
+        told[by] += 1
+        if by != "conceal":
+            print(f"{by or 'MISSED'}: {name}", flush=True)
+    print(f"{told['conceal']} of {len(SLIPS)} wrong builds told apart by the stored sample of conceal, "
+          f"{told['cases']} more by that of cases, {told[None]} by neither")
 
 
 def report(folder, standin, seed, scale, names):
@@ -140,7 +141,8 @@ def report(folder, standin, seed, scale, names):
     chosen = list(SLIPS) if every else names.split(";")
     todo = by_op(seed, scale)
     maker = states.States(seed)
-    records = {name: maker.make(name, 25 * scale) for name in maker.categories()}
+    records = {"chosen": maker.chosen()} if every and scale >= 4 else {}
+    records |= {name: maker.make(name, 25 * scale) for name in maker.categories()}
     right = {op: output(standin, "cases", b"".join(map(beside.pack, group)))
              for op, group in todo.items()}
     right |= {name: output(standin, "records", b"".join(s.tobytes() for s in group))

@@ -655,7 +655,6 @@ SLIPS = {
         ("methods", "let v = self.decode_mem[c][out_start + j];", "let v = self.decode_mem[c][out_start + j - 1];")],
     "tiny memory cleared": [
         ("methods", "self.deemph_mem[c] = mem;", "self.deemph_mem[c] = if mem.abs() < 1e-30 { 0.0 } else { mem };")],
-    "memory of 0 loses its sign": [("methods", "self.deemph_mem[c] = mem;", "self.deemph_mem[c] = mem + 0.0;")],
     "loss count held at 10": [("methods", "self.loss_count += 1;", "self.loss_count += 1; self.loss_count = self.loss_count.min(10);")],
     "unused channel's predictor cleared": [
         ("own", "    one_nan(s);\n}\n\n/// Every NaN", "    if d.channels == 1 {\n        s[137..161].fill(0);\n    }\n    one_nan(s);\n}\n\n/// Every NaN")],

@@ -69,6 +69,11 @@ class States:
         maker = self.categories()[category]
         return [maker(rng) for _ in range(count)]
 
+    def chosen(self):
+        """The records, of those of the default size, that tell wrong builds apart."""
+        made = {name: self.make(name, 100) for name, _ in kept.STORED}
+        return [made[name][place] for name, place in kept.STORED]
+
     def kept(self, k):
         """The k-th state of a further series of all categories: a hunt goes along it."""
         rng = Random(f"kept {k}")
