@@ -465,7 +465,7 @@ class Cases:
         all by noise from start 17; in every third one or two buffers are a sample short."""
         kinds = ["tone", "voice", "drum", "noise", "hiss", "near ties", "swelling", "filters",
                  "changing cycles", "mixed sizes"]
-        for turn in range(40):
+        for turn in range(32):
             s = self.states.make(kinds[turn % 10], 1, f"{self.seed} run {turn}")[0]
             s[st.LM], s[st.CHANNELS], s[st.LOSSES] = turn % 4, 1 + turn // 4 % 2, 0
             if turn % 5 == 4:

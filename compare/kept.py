@@ -43,8 +43,85 @@ EDGES = [
     ("guard", 21, 1080547535932),  # 0.2's f32 before
     ("quiet lag", 44, 1086590427554),  # running energy raised to 1's next f32
 ]
-# Records, by category and place at the default size, that between them tell every wrong build apart
-# which whole records tell apart; found by `compare/hunt --cover`.
-STORED = []
+# Records, by category and place at the default size, that between them tell the wrong builds apart
+# which records tell apart, refusals aside; found by `compare/hunt --cover`.
+STORED = [
+    ("tone", 3),  # autocorrelation summed backwards
+    ("overflow", 1),  # NaN error stops the predictor
+    ("tone", 5),  # early stop one step late
+    ("faint", 57),  # smoother rounded otherwise
+    ("drum", 21),  # second channel's first sample left out
+    ("voice", 10),  # lag windowing by the square (predictor)
+    ("voice", 27),  # 40 dB floor left out (search)
+    ("swelling", 16),  # running energy not raised to 1
+    ("near ties", 2),  # running energy in two steps
+    ("near ties", 8),  # running energy from 0
+    ("overflow's edge", 1),  # correlation not raised (fine)
+    ("overflow's edge", 30),  # correlation raised to 0 (fine)
+    ("drum", 3),  # fine sweep one narrower
+    ("near ties", 35),  # coarse correlation summed backwards
+    ("near ties", 0),  # fine correlation summed backwards
+    ("edges", 0),  # equal error stops
+    ("one place", 8),  # NaN first correlation set apart
+    ("zeros", 4),  # all-zero filter from 0 + x
+    ("overflow's edge", 46),  # all-zero filter skips coefficients of 0
+    ("faint", 41),  # smoother by quarters
+    ("swelling", 67),  # channels summed before the smoother
+    ("edges", 11),  # 0.008's next f32 (search)
+    ("edges", 9),  # 0.008's f32 before (search)
+    ("edges", 10),  # lag windowing fused (search)
+    ("kept", 6),  # both candidates begin at 0
+    ("edges", 3),  # first energy's one added last
+    ("edges", 8),  # running energy fused
+    ("overflow's edge", 14),  # running energy's NaN let through
+    ("edges", 16),  # running energy raised to 1's next f32
+    ("kept", 5),  # first candidate's tie by not less or equal
+    ("hiss", 12),  # last lag not asked
+    ("near ties", 73),  # fine correlation fused
+    ("changing cycles", 13),  # fine search one lag short
+    ("drum", 65),  # fine sweep one wider
+    ("drum", 59),  # fine sweep's lower end open
+    ("tone", 71),  # fine energy one sample less
+    ("changing cycles", 0),  # refinement up to 307
+    ("edges", 7),  # 0.7's next f32 (later)
+    ("edges", 5),  # 0.7's f32 before (later)
+    ("edges", 2),  # 0.7's next f32 (earlier)
+    ("edges", 1),  # 0.7's f32 before (earlier)
+    ("edges", 6),  # refinement at a tie (later)
+    ("edges", 12),  # refinement in f64 (earlier)
+    ("kept", 4),  # refinement asks the earlier side first
+    ("changing cycles", 75),  # shortest lag one step shorter
+    ("mixed sizes", 89),  # 1e-15 left out
+    ("tone", 22),  # band energy in f32
+    ("tone", 40),  # band's root in f64
+    ("comfort noise", 1),  # drop of 1.5 at count 1 too
+    ("energy edges", 0),  # doubled after the window
+    ("tone", 9),  # noise path at count 4
+    ("comfort noise", 16),  # background at count 4
+    ("comfort noise", 31),  # 1.5's next f32
+    ("silent bands", 2),  # overlap added to 0 first
+    ("silent bands", 1),  # overlap of 0 not added
+    ("tone", 1),  # fade folded into the decay
+    ("edges", 14),  # guard compared in f64
+    ("filters", 2),  # pre-filter not at NaN
+    ("one place", 80),  # NaN of the later cycle let through
+    ("edges", 13),  # 0.2's next f32
+    ("edges", 15),  # 0.2's f32 before
+    ("tone", 10),  # ratio in f64
+    ("hostile words", 0),  # pre-filter's third tap skipped at factor 0
+    ("silent bands", 8),  # 0 x v left out
+    ("tone", 64),  # published exp2
+    ("comfort noise", 11),  # published cosine
+    ("kept", 9),  # floor as truncation
+    ("tone", 76),  # cubic's last term left out
+    ("energy edges", 1),  # gain cut at 31
+    ("cosines", 3),  # cosine table's last bit (N 960)
+    ("cosines", 21),  # cosine table's last bit (N 120)
+    ("cosines", 0),  # cosine sum backwards
+    ("cosines", 19),  # cosine table's last bit (N 240)
+    ("cosines", 4),  # cosine table's last bit (N 480)
+    ("comfort noise", 10),  # cosine sum from -0
+    ("large counts", 3),  # count 4,294,967,294 refused
+]
 # By lm the cosine whose last bit a wrong build turns.
 COSINES = [1000, 1004, 1002, 1001]
