@@ -59,8 +59,8 @@ class States:
     def make(self, category, count, seed=None):
         """`count` states of a category; the same for the same seed, whatever else was made."""
         if category == "kept":
-            far = [self.make(name, place + 1)[place] for name, place in kept.FAR]
-            return [self.kept(k) for k in kept.STATES] + far + self.guards() + self.floors()
+            far = [self.make(name, place + 1, 1)[place] for name, place in kept.FAR]
+            return far + self.guards() + self.floors()
         if category == "edges":
             return [self.between(kind, k, n) for kind, k, n in kept.EDGES]
         if category == "limits":
@@ -71,14 +71,8 @@ class States:
 
     def chosen(self):
         """The records, of those of the default size, that tell wrong builds apart."""
-        made = {name: self.make(name, 100) for name, _ in kept.STORED}
+        made = {name: self.make(name, 100, 1) for name, _ in kept.STORED}
         return [made[name][place] for name, place in kept.STORED]
-
-    def kept(self, k):
-        """The k-th state of a further series of all categories: a hunt goes along it."""
-        rng = Random(f"kept {k}")
-        makers = [maker for name, maker in self.categories().items() if maker]
-        return rng.choice(makers)(rng)
 
     @lru_cache(maxsize=4)
     def ends(self, kind, k):
