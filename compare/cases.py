@@ -227,6 +227,7 @@ class Cases:
         count = OPS[op].words_in
         if op == 305:
             yield from self.signals(rng, 1024, 3 * self.few)
+            yield from self.refinements()
         elif count == 2048:
             yield from self.signals(rng, 2048)
             yield from self.known_periods(rng, 2048)
@@ -235,6 +236,21 @@ class Cases:
                 other = rng.choice(list(self.sounds.kinds))
                 y = rng.choice([x, self.sounds.part(rng, other, 2048), array("I", bytes(8192))])
                 yield family, rng.choice([x + y, y + x])
+
+    def refinements(self):
+        """One sample at the window's front reads the history off into the correlations: neighbours
+        of the best below -1, both infinite, and one of them NaN."""
+        large = 1e30
+        for best in (2, 100, 306):
+            for read in (
+                {best - 1: -1.5, best: 1.2, best + 1: 0.45},
+                {best: 5, 370: large, best + 9: large, best + 11: large},
+                {best: 5, best + 1: 3.5, 370: large, 760: large, best + 9: large, best + 399: -large},
+            ):
+                y = [0.0] * 1024
+                for at, value in {360: 1, **read}.items():
+                    y[at] = value
+                yield "refinement", w.float_words(y)
 
     def known_periods(self, rng, count):
         for _ in range(2 * self.few):

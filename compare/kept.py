@@ -17,9 +17,9 @@ STOPS = [
 GUARDS = [(77, 0xBF7F1393), (233, 0xBF5A5603)]
 # Bands and log energies whose gain differs where floor is taken as truncation.
 ENERGIES = [(20, 0xC0720EEB), (0, 0xC0CF9B88), (0, 0xC0CF9F25), (20, 0xC07346D9)]
-CASES = {301: [69, 1488], 305: [15, 133, 780], 801: [15, 220]}
+CASES = {301: [69, 1488], 305: [15, 160, 951], 801: [15, 220]}
 # Records of a category beyond the default size, by place.
-FAR = [("overflow's edge", 238), ("overflow's edge", 139), ("faint", 341)]
+FAR = [("overflow's edge", 238), ("overflow's edge", 139), ("faint", 341), ("read off", 187)]
 SUMS = [0xB338A6B0, 0xB4CFBF13]
 TRUNCATED = [0xBD03BAC0, 0xBD4DC400, 0xBD4F9280, 0xBD51B640, 0xBDAE0A80, 0xBDC665C0]
 # Places on the way between two states, by kind and number, at the edge of a choice.
@@ -69,12 +69,12 @@ STORED = [
     ("edges", 11),  # 0.008's next f32 (search)
     ("edges", 9),  # 0.008's f32 before (search)
     ("edges", 10),  # lag windowing fused (search)
-    ("kept", 2),  # both candidates begin at 0
+    ("kept", 8),  # both candidates begin at 0
     ("edges", 3),  # first energy's one added last
     ("edges", 8),  # running energy fused
     ("overflow's edge", 14),  # running energy's NaN let through
     ("edges", 16),  # running energy raised to 1's next f32
-    ("kept", 1),  # first candidate's tie by not less or equal
+    ("kept", 7),  # first candidate's tie by not less or equal
     ("hiss", 12),  # last lag not asked
     ("near ties", 73),  # fine correlation fused
     ("changing cycles", 13),  # fine search one lag short
@@ -88,7 +88,8 @@ STORED = [
     ("edges", 1),  # 0.7's f32 before (earlier)
     ("edges", 6),  # refinement at a tie (later)
     ("edges", 12),  # refinement in f64 (earlier)
-    ("kept", 0),  # refinement asks the earlier side first
+    ("kept", 6),  # refinement asks the earlier side first
+    ("kept", 9),  # fine correlation raised to -2
     ("changing cycles", 75),  # shortest lag one step shorter
     ("mixed sizes", 89),  # 1e-15 left out
     ("tone", 22),  # band energy in f32
@@ -111,7 +112,7 @@ STORED = [
     ("silent bands", 8),  # 0 x v left out
     ("tone", 64),  # published exp2
     ("comfort noise", 11),  # published cosine
-    ("kept", 5),  # floor as truncation
+    ("kept", 2),  # floor as truncation
     ("tone", 76),  # cubic's last term left out
     ("energy edges", 1),  # gain cut at 31
     ("cosines", 3),  # cosine table's last bit (N 960)

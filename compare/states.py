@@ -44,6 +44,7 @@ class States:
             "one place": self.one_place,
             "mixed sizes": self.mixed_sizes,
             "faint": self.faint,
+            "read off": self.read_off,
             "level cycles": self.level_cycles,
             "changing cycles": self.changing_cycles,
             "hostile words": self.hostile,
@@ -60,7 +61,7 @@ class States:
         """`count` states of a category; the same for the same seed, whatever else was made."""
         if category == "kept":
             far = [self.make(name, place + 1, 1)[place] for name, place in kept.FAR]
-            return far + self.guards() + self.floors()
+            return self.guards() + self.floors() + far
         if category == "edges":
             return [self.between(kind, k, n) for kind, k, n in kept.EDGES]
         if category == "limits":
@@ -355,6 +356,19 @@ class States:
             kind = rng.choice(["tone", "voice", "hiss", "hiss", "noise"])
             part = self.sounds.part(rng, kind, 2168)
             s[HISTORY + 2168 * c : HISTORY + 2168 * (c + 1)] = self.scaled(part, 10 ** rng.uniform(-3, 0))
+        return s
+
+    def read_off(self, rng):
+        """One large pulse at the end, which reads small samples off into the correlations: about 1, where
+        raising them to -1 counts."""
+        s = self.base(rng, "silence")
+        s[LM], s[CHANNELS], s[LOSSES], s[GAIN] = 0, 1, 0, 0
+        top, level = 10 ** rng.uniform(2, 6), rng.uniform(0.5, 4)
+        s[HISTORY:] = array("I", bytes(4 * 4336))
+        first = rng.randrange(1340, 1900)
+        for at in range(first, first + rng.choice([4, 8, 16, 40])):
+            s[HISTORY + at] = w.bits(level * rng.gauss(0, 1) / top)
+        s[HISTORY + 2 * rng.randrange(1000, 1023)] = w.bits(2 * top)
         return s
 
     def scaled(self, part, level):
