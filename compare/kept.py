@@ -15,8 +15,9 @@ STOPS = [
 # States by number, and the first predictor coefficient at which the energy guard's answer differs
 # between f32 and f64.
 GUARDS = [(77, 0xBF7F1393), (233, 0xBF5A5603)]
-# Bands and log energies whose gain differs where floor is taken as truncation.
-ENERGIES = [(20, 0xC0720EEB), (0, 0xC0CF9B88), (0, 0xC0CF9F25), (20, 0xC07346D9)]
+# Bands and log energies whose gain differs where floor is taken as truncation; the last one's sum
+# is the first above -150.
+ENERGIES = [(20, 0xC0720EEB), (0, 0xC0CF9B88), (0, 0xC0CF9F25), (20, 0xC07346D9), (0, 0xC31C6FFF)]
 CASES = {301: [69, 1488], 305: [15, 160, 951], 801: [15, 220]}
 # Records of a category beyond the default size, by place.
 FAR = [("overflow's edge", 238), ("overflow's edge", 139), ("faint", 341), ("read off", 187)]
@@ -69,12 +70,12 @@ STORED = [
     ("edges", 11),  # 0.008's next f32 (search)
     ("edges", 9),  # 0.008's f32 before (search)
     ("edges", 10),  # lag windowing fused (search)
-    ("kept", 8),  # both candidates begin at 0
+    ("kept", 9),  # both candidates begin at 0
     ("edges", 3),  # first energy's one added last
     ("edges", 8),  # running energy fused
     ("overflow's edge", 14),  # running energy's NaN let through
     ("edges", 16),  # running energy raised to 1's next f32
-    ("kept", 7),  # first candidate's tie by not less or equal
+    ("kept", 8),  # first candidate's tie by not less or equal
     ("hiss", 12),  # last lag not asked
     ("near ties", 73),  # fine correlation fused
     ("changing cycles", 13),  # fine search one lag short
@@ -88,8 +89,8 @@ STORED = [
     ("edges", 1),  # 0.7's f32 before (earlier)
     ("edges", 6),  # refinement at a tie (later)
     ("edges", 12),  # refinement in f64 (earlier)
-    ("kept", 6),  # refinement asks the earlier side first
-    ("kept", 9),  # fine correlation raised to -2
+    ("kept", 7),  # refinement asks the earlier side first
+    ("kept", 10),  # fine correlation raised to -2
     ("changing cycles", 75),  # shortest lag one step shorter
     ("mixed sizes", 89),  # 1e-15 left out
     ("tone", 22),  # band energy in f32
@@ -115,6 +116,7 @@ STORED = [
     ("kept", 2),  # floor as truncation
     ("tone", 76),  # cubic's last term left out
     ("energy edges", 1),  # gain cut at 31
+    ("kept", 6),  # gain of 0 below -150's f32 above
     ("cosines", 3),  # cosine table's last bit (N 960)
     ("cosines", 21),  # cosine table's last bit (N 120)
     ("cosines", 0),  # cosine sum backwards
@@ -122,6 +124,9 @@ STORED = [
     ("cosines", 4),  # cosine table's last bit (N 480)
     ("comfort noise", 10),  # cosine sum from -0
     ("large counts", 3),  # count 4,294,967,294 refused
+    ("tone", 24),  # mean energy 19's next f32
+    ("near ties", 22),  # tapset 1, factor 2's next f32
+    ("near ties", 10),  # tapset 2, factor 2's next f32
 ]
 # By lm the cosine whose last bit a wrong build turns.
 COSINES = [1000, 1004, 1002, 1001]

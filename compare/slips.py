@@ -714,8 +714,6 @@ SLIPS = {
     "cosine sum from -0": [("own", "let mut acc = 0.0f64;", "let mut acc = -0.0f64;")],
     "cosine sum fused": [
         ("own", "acc += f64::from(x) * circle[angle];", "acc = f64::from(x).mul_add(circle[angle], acc);")],
-    "cosine sum skips bins of 0": [
-        ("own", "acc += f64::from(x) * circle[angle];", "if x != 0.0 { acc += f64::from(x) * circle[angle]; }")],
     "cosine sum's products in f32": [
         ("own", "acc += f64::from(x) * circle[angle];", "acc += f64::from(x * circle[angle] as f32);")],
     "cosine sum without the last bin": [

@@ -113,7 +113,8 @@ class States:
         return out
 
     def floors(self):
-        """Noise losses of one band alone, its energy one at which floor and truncation part."""
+        """Noise losses of one band alone, its energy one at which floor and truncation part, or the
+        lowest that has a gain."""
         out = []
         for k, (band, word) in enumerate(kept.ENERGIES):
             s = self.base(Random(f"floor {k}"), "silence")
