@@ -114,16 +114,20 @@ def program(parts, own=("around.rs", "standin.rs", "measure.rs", "tool.rs")):
     return re.sub(r"^ *//@ (\w+)\n", put, text, flags=re.M)
 
 
-def compile_rust(text, name, level=3):
-    """Builds the text, unless the same text is built already; gives the program's path."""
+def compile_rust(text, name, quick=False):
+    """Builds the text, unless the same text is built already; gives the program's path. `quick`
+    keeps what is the same from one build to the next, for many that differ little."""
     folder = BUILD / name
     folder.mkdir(parents=True, exist_ok=True)
     source, out = folder / "main.rs", folder / "tool"
     if out.is_file() and source.is_file() and source.read_text() == text:
         return out
     source.write_text(text)
-    done = subprocess.run(["rustc", "--edition", "2021", "-C", f"opt-level={level}", "-o", out, source],
-                          capture_output=True, text=True)
+    options = ["opt-level=1", f"incremental={BUILD / 'incremental'}"] if quick else ["opt-level=3"]
+    command = ["rustc", "--edition", "2021", "-o", out, source]
+    for option in options:
+        command += ["-C", option]
+    done = subprocess.run(command, capture_output=True, text=True)
     if done.returncode:
         out.unlink(missing_ok=True)
         extract.stop(f"rustc failed on {source}\n{done.stderr[-4000:]}")

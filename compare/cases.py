@@ -3,14 +3,10 @@ import math
 from array import array
 from random import Random
 
-import halfway
 import kept
 import states as st
 import words as w
 from ops import GROUPS, OPS
-
-MEANS = [6.4375, 6.25, 5.75, 5.3125, 5.0625, 4.8125, 4.5, 4.375, 4.875, 4.6875, 4.5625, 4.4375,
-         4.875, 4.625, 4.3125, 4.5, 4.375, 4.625, 4.75, 4.4375, 3.75]
 
 
 def unlike_zeros(x, y):
@@ -21,12 +17,11 @@ class Cases:
     """`few` is the number of cases of a heavy op and family, `many` of a light one."""
 
     series = {}  # by op: how many cases one turn of its series has
-    halfway = halfway.Halfway()
 
     def __init__(self, seed, few, many, states=None):
         self.seed, self.few, self.many = seed, few, many
         self.states = states or st.States(1)
-        self.sounds = self.states.sounds
+        self.sounds, self.halfway = self.states.sounds, self.states.halfway
         self.last = (None, None)
 
     def group(self, name):
@@ -142,6 +137,9 @@ class Cases:
             yield "hostile words", x
         for _ in range(few):
             yield "random words", w.random_words(rng, count)
+        yield "zeros", array("I", w.ZEROS * (count // 2))
+        for _ in range(few):
+            yield "zeros", self.states.zero_words(rng, count)
 
     def coefficients(self, rng, count):
         draw = rng.random()
@@ -199,6 +197,9 @@ class Cases:
             yield "early stop", array("I", stop + [0] * (count - 5))
         for _ in range(self.few * 5):
             yield "early stop", w.float_words(self.at_the_stop(rng, count))
+        for first in (0x3F800000, 0xBF800000, *w.ZEROS):
+            for rest in w.ZEROS:
+                yield "zeros", array("I", [first] + [rest] * (count - 1))
         for _ in range(self.few * 2):
             lags = array("I", [rng.choice(w.HOSTILE) if rng.random() < 0.3 else
                                w.bits(rng.gauss(0, 1)) for _ in range(count)])
@@ -226,6 +227,7 @@ class Cases:
         count = OPS[op].words_in
         if op == 305:
             yield from self.signals(rng, 1024, 3 * self.few)
+            yield from self.refinements()
         elif count == 2048:
             yield from self.signals(rng, 2048)
             yield from self.known_periods(rng, 2048)
@@ -234,6 +236,21 @@ class Cases:
                 other = rng.choice(list(self.sounds.kinds))
                 y = rng.choice([x, self.sounds.part(rng, other, 2048), array("I", bytes(8192))])
                 yield family, rng.choice([x + y, y + x])
+
+    def refinements(self):
+        """One sample at the window's front reads the history off into the correlations: neighbours
+        of the best below -1, both infinite, and one of them NaN."""
+        large = 1e30
+        for best in (2, 100, 306):
+            for read in (
+                {best - 1: -1.5, best: 1.2, best + 1: 0.45},
+                {best: 5, 370: large, best + 9: large, best + 11: large},
+                {best: 5, best + 1: 3.5, 370: large, 760: large, best + 9: large, best + 399: -large},
+            ):
+                y = [0.0] * 1024
+                for at, value in {360: 1, **read}.items():
+                    y[at] = value
+                yield "refinement", w.float_words(y)
 
     def known_periods(self, rng, count):
         for _ in range(2 * self.few):
@@ -326,7 +343,7 @@ class Cases:
             yield from self.gains(rng)
 
     def gains(self, rng):
-        mean = lambda: w.bits(rng.choice(MEANS))
+        mean = lambda: w.bits(rng.choice(w.MEANS[:21]))
         for x in w.HOSTILE:
             yield "hostile words", [x, mean()]
             yield "hostile words", [x, 0]
@@ -438,18 +455,42 @@ class Cases:
             return
         for family in self.states.categories():
             for s in self.states.make(family, self.few, self.seed):
-                need = 1920
-                if s[st.LM] < 4 and s[st.CHANNELS] < 3 and 0 < s[st.DOWNSAMPLE] < 7:
-                    need = s[st.CHANNELS] * (120 << s[st.LM]) // s[st.DOWNSAMPLE]
+                need = self.needed(s)
                 if op == 1001:
                     lent = rng.choice([need, need, need + 1, 2000, max(need, 1) - 1, 0])
                     history = rng.choice([4336, 4336, 4336, 4336, 4335, 4337])
                     yield family, array("I", [lent, history]) + s
                 else:
                     n = rng.choice([0, 12, 13, 16, 16])
-                    lent = [rng.choice([need, need, need, 1920, max(need, 1) - 1]) if i < n else 0
-                            for i in range(16)]
-                    yield family, array("I", [n, *lent]) + s
+                    lent = [rng.choice([need, need, need, 1920, max(need, 1) - 1]) for _ in range(n)]
+                    yield family, self.run_case(lent, s)
+        if op == 1002:
+            yield from self.long_runs(rng)
+
+    def needed(self, s):
+        """How many samples a loss writes; of a state that is refused, at most 1,920."""
+        if s[st.LM] > 3 or s[st.CHANNELS] > 2 or not 0 < s[st.DOWNSAMPLE] < 7:
+            return 1920
+        return s[st.CHANNELS] * (120 << s[st.LM]) // s[st.DOWNSAMPLE]
+
+    def run_case(self, lent, s):
+        return array("I", [len(lent), *lent, *[0] * (16 - len(lent))]) + s
+
+    def long_runs(self, rng):
+        """12 to 16 losses from count 0, each lm and channel count: five by pitch, then by noise, or
+        all by noise from start 17; in every third one or two buffers are a sample short."""
+        kinds = ["tone", "voice", "drum", "noise", "hiss", "near ties", "swelling", "filters",
+                 "changing cycles", "mixed sizes"]
+        for turn in range(32):
+            s = self.states.make(kinds[turn % 10], 1, f"{self.seed} run {turn}")[0]
+            s[st.LM], s[st.CHANNELS], s[st.LOSSES] = turn % 4, 1 + turn // 4 % 2, 0
+            if turn % 5 == 4:
+                s[st.START], s[st.END] = 17, rng.choice([21, 19])
+            lent = [self.needed(s)] * rng.randint(12, 16)
+            if turn % 3 == 0:
+                for at in rng.sample(range(len(lent)), rng.randint(1, 2)):
+                    lent[at] -= 1
+            yield "long runs", self.run_case(lent, s)
 
     def silent(self, rng):
         """Heads alone: every limit and every pair of broken ones, with buffers of all lengths."""

@@ -9,6 +9,9 @@ import tables
 import words as w
 
 
+GAINS = tables.gain()
+
+
 def to_f32(x):
     return struct.unpack("<f", struct.pack("<f", x))[0]
 
@@ -19,6 +22,27 @@ def fold(j):
     if j > 3840:
         j = 7680 - j
     return (j, 1) if j <= 1920 else (3840 - j, -1)
+
+
+def gain(energy, mean):
+    """The band gain of two f32, as document 01 has it."""
+    x = to_f32(energy + mean)
+    if x <= -150:
+        return 0.0
+    k = math.floor(256 * x)
+    y = (x - k / 256) * math.log(2)
+    p = 1 + y * (1 + y * (0.5 + y * (1 / 6)))
+    return to_f32(GAINS[k % 256] * p * 2.0 ** (k // 256))
+
+
+def drawn(seed, count):
+    """A band of so many draws, scaled to energy 1, and the seed after them."""
+    values = []
+    for _ in range(count):
+        seed = (seed * 1664525 + 1013904223) % 2**32
+        values.append((seed - (seed >> 31 << 32)) >> 20)
+    scale = to_f32(1 / to_f32(math.sqrt(to_f32(1e-15 + sum(v * v for v in values)))))
+    return [to_f32(v * scale) for v in values], seed
 
 
 class Halfway:
@@ -77,3 +101,34 @@ class Halfway:
         out[second] = -out[first] * sign * turned
         out[rng.randrange(second + 1, n)] = rng.uniform(1, 2)
         return out
+
+    def noise_loss(self, rng, lm, entry, up):
+        """A seed and the energies of bands 0 and 1 with which a noise loss of these two alone tells one
+        cosine from the f64 next above (or below): at one output the first band's sum, and the second's, much smaller, lie
+        next to a halfway point of f32."""
+        wrong = math.nextafter(self.c[entry], 2 if up else -2)
+        m, n = 1 << lm, 120 << lm
+        first = (n - 120) // 2
+        places = [(t, k) for t in range(first, first + n + 120) for k in range(m)
+                  if fold((2 * t + 1 + n) * (2 * k + 1) * (960 // n))[0] == entry]
+        while True:
+            t, _ = rng.choice(places)
+            seed = rng.getrandbits(32)
+            one, after = drawn(seed, m)
+            other, _ = drawn(after, m)
+            angles = [fold((2 * t + 1 + n) * (2 * k + 1) * (960 // n)) for k in range(2 * m)]
+            right = [sign * self.c[j] for j, sign in angles]
+            turned = [sign * (wrong if j == entry else self.c[j]) for j, sign in angles]
+            energy = to_f32(rng.uniform(2, 4))
+            loud = [to_f32(x * gain(energy, w.MEANS[0])) for x in one]
+            begun = sum(map(float.__mul__, loud, right))
+            unit = 2.0 ** (math.frexp(begun)[1] - 25)
+            short = (2 * math.floor(begun / unit / 2) + 1) * unit - begun
+            share = short / (sum(map(float.__mul__, other, right[m:])) or 1)
+            if share <= 0:
+                continue
+            faint = to_f32(math.log2(share) - w.MEANS[1])
+            spectrum = loud + [to_f32(x * gain(faint, w.MEANS[1])) for x in other]
+            sums = [to_f32(0.5 * sum(map(float.__mul__, spectrum, c))) for c in (right, turned)]
+            if sums[0] != sums[1]:
+                return seed, w.bits(energy), w.bits(faint)

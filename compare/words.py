@@ -9,6 +9,9 @@ INFINITIES = [0x7F800000, 0xFF800000]
 HUGE = [0x7F7FFFFF, 0xFF7FFFFF, 0x7F000000, 0xFE967699, 0x5F800000, 0xDF000000]
 TINY = [0x00000001, 0x80000001, 0x007FFFFF, 0x807FFFFF, 0x00800000, 0x80800000, 0x0C000000]
 ZEROS = [0x00000000, 0x80000000]
+# The mean energies of the bands; past the last they stay at 3.75.
+MEANS = [6.4375, 6.25, 5.75, 5.3125, 5.0625, 4.8125, 4.5, 4.375, 4.875, 4.6875, 4.5625, 4.4375,
+         4.875, 4.625, 4.3125, 4.5, 4.375, 4.625, 4.75, 4.4375, 3.75, 3.75, 3.75, 3.75, 3.75]
 HOSTILE = NANS + INFINITIES + HUGE + TINY + ZEROS
 
 
@@ -29,6 +32,12 @@ def long_bits(x):
 def float_words(values):
     """The words of many floats."""
     return array("I", array("f", values).tobytes())
+
+
+def mixed(a, b, share):
+    """The words of 1 - share of one signal and share of another."""
+    one, other = (array("f", x.tobytes()) for x in (a, b))
+    return float_words([(1 - share) * x + share * y for x, y in zip(one, other)])
 
 
 def random_words(rng, count):

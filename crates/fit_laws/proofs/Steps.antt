@@ -5,7 +5,7 @@ use Prim.Native.Nat.{ℕ, zero, suc, _+_, _-_, _^_, _<_}
 use lib.ListN.{length, getD, set, take, drop, replicate}
 use lib.Seq.{slice}
 use lib.Dec.{leb}
-use lib.Ieee.{Float, nan, binary32, sub, eq, lt, ofBits}
+use lib.Ieee.{Float, nan, binary32, sub, eq, lt}
 use lib.Ieee.Fits.{add-fits, sub-fits, mul-fits, div-fits}
 use lib.Ieee.Bits.{ofBits-fits}
 use Rattle.loops.specs.Front.{tab}
@@ -16,7 +16,7 @@ use Rattle.band_quant.specs.Draw.{draw, draws, draw-word}
 use Rattle.history.specs.History.{half, overlap, channel, Tail, Tails, withTails}
 use Rattle.celt_window.specs.Window.{window}
 use Rattle.post_filter.specs.declared.Filter.{Filter}
-use Rattle.prefilter.specs.Comb.{combAt, combFilterTo, tapGain, preFiltered}
+use Rattle.prefilter.specs.Comb.{combAt, combFilterTo, tapGain, skips, preFiltered}
 use Rattle.plc_lpc.specs.Lpc.{Lpc, crossed, reflection, lpcWith, lpcTurn, lpcTo, celtLpc}
 use Rattle.plc_iir.specs.Iir.{iirAt, iirTo, celtIir}
 use Rattle.excitation.specs.Cycle.{repeatedCycle}
@@ -125,7 +125,7 @@ filter-single x t g0 g1 g2 = all-tab _ overlap (λ i. comb-single x (half + i) t
 pre-single : (f : Filter) (new over : List Float) → AllSingle over → AllSingle (preFiltered f new over)
 unfolding preFiltered
 pre-single f new over a =
-    all-cond (eq (f .gain) (ofBits binary32 0)) over (combFilterTo (new ++ over) (f .period) (tapGain f 0) (tapGain f 1) (tapGain f 2)) a
+    all-cond (skips (f .gain)) over (combFilterTo (new ++ over) (f .period) (tapGain f 0) (tapGain f 1) (tapGain f 2)) a
     (filter-single (new ++ over) (f .period) (tapGain f 0) (tapGain f 1) (tapGain f 2))
 
 folded-single : (w x : List Float) → AllSingle (folded w x)
