@@ -244,7 +244,6 @@ near-root x a r h w =
     let m = w .m in
     let k = w .k in
     let q = w .q in
-    let p = 2 ^ k in
     let s = w .scaled .same in
     let val : HasValue (ofBits binary32 r) false (q * 2 ^ k) (2 ^ 149) =
     subst (λ (b : ℕ). HasValue (ofBits binary32 b) false (q * 2 ^ k) (2 ^ 149)) (w .is)
