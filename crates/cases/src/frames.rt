@@ -3,7 +3,7 @@ use crate::streams;
 use deemphasis::Deemphasised;
 use deemphasis_mono::deemphasis_mono;
 use deemphasis_stereo::deemphasis_stereo;
-use settings::sizes::frame_size;
+use sizes::frame_size;
 
 // The first n samples of v.
 fn mono(

@@ -3,7 +3,7 @@ use crate::streams;
 use celt_window::low_overlap_window;
 use celt_window::window;
 use mdct::imdct;
-use settings::sizes::frame_size;
+use sizes::frame_size;
 
 fn answer_window() -> bool {
     let i = streams::read_word();

@@ -13,7 +13,7 @@ use noise_block::Drawn;
 use noise_block::noise_block;
 use settings::Settings;
 use settings::checks::settings_pass;
-use settings::sizes::frame_size;
+use sizes::frame_size;
 
 mod cover;
 

@@ -17,7 +17,7 @@ use post_filter::Filter;
 use post_filter::filter_fits;
 use settings::Settings;
 use settings::checks::settings_pass;
-use settings::sizes::frame_size;
+use sizes::frame_size;
 use state::checks::LAG_LEAST;
 use state::checks::LAG_MOST;
 

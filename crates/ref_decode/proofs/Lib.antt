@@ -1,3 +1,2 @@
-mod Frames
 mod Paths
 mod Entry

@@ -1,5 +1,4 @@
 // One lost frame, from a carried state and its lent history to PCM: `CeltRefDecoder::decode_lost`.
-mod finish;
 mod noise;
 mod pitch;
 
@@ -9,6 +8,7 @@ ghost use lib.ListN.{length};
 ghost use Rattle.state.specs.State.{core, noisy};
 ghost use Rattle.state.specs.Refusal.{refusal};
 ghost use Rattle.loss.specs.Loss.{concealed, loss, outcomeOf, inBuffer};
+use finish::finish;
 use state::Answer;
 use state::State;
 use state::checks::first_refusal;
@@ -37,7 +37,7 @@ fn conceal_by_noise(s: State, history: &mut [f32], pcm: &mut [f32]) -> Answer
     ensures { λ r. ⌜ outcomeOf r (now (pcm .exit)) (now (history .exit)) ≡ inBuffer (now (pcm .entry)) (concealed s (now (history .entry))) ⌝ }
 {
     let made = noise::noise_made(s, history);
-    finish::finish(s, made, history, pcm)
+    finish(s, made, history, pcm)
 }
 
 fn conceal_by_pitch(s: State, history: &mut [f32], pcm: &mut [f32]) -> Answer
@@ -45,7 +45,7 @@ fn conceal_by_pitch(s: State, history: &mut [f32], pcm: &mut [f32]) -> Answer
     ensures { λ r. ⌜ outcomeOf r (now (pcm .exit)) (now (history .exit)) ≡ inBuffer (now (pcm .entry)) (concealed s (now (history .entry))) ⌝ }
 {
     let made = pitch::pitch_made(s, history);
-    finish::finish(s, made, history, pcm)
+    finish(s, made, history, pcm)
 }
 
 // Conceals one lost frame: `history` is 4,336 samples, channel 0 first, each channel's 2,048 oldest first and then

@@ -1,10 +1,8 @@
 -- The code's way to each number of the table.
 use mathlib.Core.Path.{_≡_, refl, ap, sym, _∙_}
 use mathlib.Core.Bool.{Bool, cond, _||_}
-use Prim.Native.Nat.{ℕ, zero, suc, _*_, _%_, _^_, _≤_}
+use Prim.Native.Nat.{ℕ, zero, suc}
 use native.Mathlib.Omega.{arith}
-use native.Mathlib.Nat.{pow-le-pow-right, mod-eq-of-lt}
-use lib.Dec.{lit<}
 use borrow.Author.Tests.{ne-eqb}
 use Rattle.settings.specs.Number.{orElse, within}
 use Rattle.settings.specs.Settings.{checkDownsample}
@@ -22,9 +20,3 @@ or-second (suc a) b e = let z : ⊥ = omega arith in absurd z
 -- a factor other than 6
 pub other-factor : (d : ℕ) (p : Bool) (r : ℕ) → (d ≡ 6 → ⊥) → p ≡ within 1 4 d → r ≡ cond p 0 5 → r ≡ checkDownsample d
 other-factor d p r n w e = e ∙ ap (λ b. cond b 0 5) (w ∙ sym (ap (λ a. a || within 1 4 d) (ne-eqb d 6 n)))
-
--- a shift by lm loses nothing
-pub shift-fits : (lm : ℕ) → lm ≤ 3 → 1 * 2 ^ lm % 2 ^ 64 ≡ 2 ^ lm
-shift-fits lm l =
-    let e : 1 * 2 ^ lm ≡ 2 ^ lm = omega arith in
-    mod-eq-of-lt (omega (arith, pow-le-pow-right {n = 2} (lit< tt) {i = lm} {j = 3} l)) ∙ e

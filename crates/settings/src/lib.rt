@@ -3,7 +3,6 @@ ghost use mathlib.Core.Path.{_≡_};
 ghost use Rattle.settings.specs.Number.{numberOf};
 
 pub mod checks;
-pub mod sizes;
 
 // The settings of a stream; the frame is 120 * 2 ^ lm samples long.
 pub struct Settings {

@@ -9,7 +9,7 @@ use settings::checks::check_settings;
 use settings::checks::is_within;
 use settings::checks::or_else;
 use settings::checks::unless;
-use settings::sizes::needed_samples;
+use sizes::needed_samples;
 
 // A loss count that cannot rise.
 const COUNT_FULL: u32 = 4_294_967_295;

@@ -1,8 +1,6 @@
 -- `ref_decode::conceal_by_noise` meets its contract: what the path made, and then the finish.
-use mathlib.Core.Path.{ap, _∙_}
-use lib.ListN.{length}
-use Rattle.state.specs.Refusal.{refusal}
-use Rattle.ref_decode.proofs.Entry.{accepted-state, noise-left}
+use Rattle.finish.proofs.End.{accepted-state}
+use Rattle.ref_decode.proofs.Entry.{noise-left}
 use borrow.Author.Needs.{needs}
 use Rattle.ref_decode.proofs.conceal_by_noise.Statement.{statement}
 use Rattle.ref_decode.proofs.conceal_by_noise.Tie as tie
@@ -11,9 +9,7 @@ noise-made-requires : tie.Need-noise-made-requires
 noise-made-requires c κs = accepted-state _ _ _ (c .before .before .before .pre .0)
 
 finish-requires : tie.Need-finish-requires
-finish-requires c κs =
-    let x = c .before .before .before .before .before .before .before .before in
-    ap (λ n. refusal (x .args .s) n (length (x .args .pcm .now))) (c .before .before .before .before .noise-made .kept .1 .0) ∙ x .pre .0
+finish-requires c κs = search needs
 
 same-length : tie.Need-same-length
 same-length c = search needs
@@ -25,7 +21,7 @@ returns : tie.Need-returns
 returns c =
     let x = c .before .before .before .before .before .before .before .before .before .before .before in
     let y = c .before .before .before .before .before .before .before .noise-made in
-    noise-left (x .args .s) (x .args .history .now) (x .args .pcm .now) _ (y .result) _ (c .before .before .finish .ensures) (x .pre .1) (y .ensures .0) (y .ensures .1)
+    noise-left (x .args .s) (x .args .history .now) (x .args .pcm .now) _ (y .result) _ (c .before .before .finish .ensures) (y .kept .1 .0) (x .pre .0) (x .pre .1) (y .ensures .0) (y .ensures .1)
 
 pub conceal-by-noise-spec : {M : Type 1} → statement M
 conceal-by-noise-spec =

@@ -3,6 +3,7 @@ use mathlib.Core.Path.{_≡_, _∙_, sym}
 use lib.ListN.{length}
 use Rattle.state.specs.Refusal.{refusal}
 use Rattle.loss.specs.Loss.{concealed, loss, inBuffer}
+use Rattle.finish.proofs.End.{refused-is}
 use Rattle.ref_decode.proofs.Entry.{accepted-left, refused-left}
 use borrow.Author.Needs.{needs}
 use Rattle.ref_decode.proofs.decode_lost.Statement.{statement}
@@ -29,7 +30,8 @@ value-requires c κs = search needs
 returns : tie.Need-returns
 returns c =
     let x = c .before .before .before .before .before in
-    refused-left (x .args .s) (x .args .history .now) (x .args .pcm .now) _ (c .before .before .first-refusal .ensures) (λ z. c .if1 .taken (c .before .value .ensures ∙ z))
+    refused-is _ (x .args .s) (x .args .history .now) (x .args .pcm .now)
+    ∙ refused-left (x .args .s) (x .args .history .now) (x .args .pcm .now) _ (c .before .before .first-refusal .ensures) (λ z. c .if1 .taken (c .before .value .ensures ∙ z))
 
 by-noise-requires : tie.Need-by-noise-requires
 by-noise-requires c κs = search needs

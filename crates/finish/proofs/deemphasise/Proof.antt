@@ -1,9 +1,9 @@
--- `ref_decode::finish::deemphasise` meets its contract: the lengths fit.
+-- `finish::deemphasise` meets its contract: the lengths fit.
 use native.Mathlib.Omega.{arith}
-use Rattle.ref_decode.proofs.Frames.{high, mono-sound, stereo-sound}
+use Rattle.finish.proofs.Frames.{high, mono-sound, stereo-sound}
 use borrow.Author.Needs.{needs}
-use Rattle.ref_decode.proofs.finish.deemphasise.Statement.{statement}
-use Rattle.ref_decode.proofs.finish.deemphasise.Tie as tie
+use Rattle.finish.proofs.deemphasise.Statement.{statement}
+use Rattle.finish.proofs.deemphasise.Tie as tie
 
 frame-size-requires : tie.Need-frame-size-requires
 frame-size-requires c κs = search needs

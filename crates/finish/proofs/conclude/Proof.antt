@@ -1,10 +1,10 @@
--- `ref_decode::finish::finish` meets its contract: field by field.
+-- `finish::conclude` meets its contract: field by field.
 use Rattle.deemphasis.specs.Deemphasis.{sound}
 use Rattle.state.proofs.Keep.{ok-start}
-use Rattle.ref_decode.proofs.Entry.{accepted-state, accepted-room, accepted-count, finish-left}
+use Rattle.finish.proofs.End.{accepted-state, accepted-room, accepted-count, finish-left}
 use borrow.Author.Needs.{needs}
-use Rattle.ref_decode.proofs.finish.finish.Statement.{statement}
-use Rattle.ref_decode.proofs.finish.finish.Tie as tie
+use Rattle.finish.proofs.conclude.Statement.{statement}
+use Rattle.finish.proofs.conclude.Tie as tie
 
 deemphasise-requires : tie.Need-deemphasise-requires
 deemphasise-requires c κs =
@@ -31,6 +31,6 @@ returns c =
     let y = c .before .before .before .before .before .before .deemphasise in
     finish-left (x .args .s) (x .args .made) (x .args .history .now) (x .args .pcm .now) (sound _ (y .result)) _ (y .ensures) (c .before .before .needed-samples .ensures)
 
-pub finish-spec : {M : Type 1} → statement M
-finish-spec =
+pub conclude-spec : {M : Type 1} → statement M
+conclude-spec =
     tie.close (tie.spec deemphasise-requires add-count needed-samples-requires same-length returns)

@@ -1,13 +1,13 @@
--- `settings::sizes::needed_samples` meets its contract.
+-- `sizes::needed_samples` meets its contract.
 use mathlib.Core.Path.{_≡_, sym, _∙_}
 use mathlib.Core.Bool.{false}
 use native.Mathlib.Omega.{arith}
 use lib.Dec.{eqb}
 use Rattle.settings.proofs.Passed.{good, downsample-low, needed-code, needed-most}
 use borrow.Author.Needs.{needs}
 use Rattle.settings.specs.Settings.{checkSettings, needed}
-use Rattle.settings.proofs.sizes.needed_samples.Statement.{statement}
-use Rattle.settings.proofs.sizes.needed_samples.Tie as tie
+use Rattle.sizes.proofs.needed_samples.Statement.{statement}
+use Rattle.sizes.proofs.needed_samples.Tie as tie
 
 settings-pass-requires : tie.Need-settings-pass-requires
 settings-pass-requires c κs = search needs

@@ -1,4 +1,4 @@
-// The end of either path: de-emphasis, and the state after it.
+// The end of a call, whichever path it went: de-emphasis, and the state after it.
 ghost use mathlib.Core.Path.{_≡_};
 ghost use Prim.Native.Nat.{_≤_};
 ghost use lib.ListN.{length};
@@ -7,15 +7,17 @@ ghost use Rattle.settings.specs.Settings.{checkSettings, needed};
 ghost use Rattle.state.specs.Refusal.{refusal};
 ghost use Rattle.deemphasis.specs.Deemphasis.{sound};
 ghost use Rattle.loss.specs.Loss.{frameSound, finish, outcomeOf, inBuffer, soundIn};
+ghost use Rattle.finish.specs.Finish.{finished};
 use deemphasis_mono::deemphasis_mono;
 use deemphasis_stereo::deemphasis_stereo;
 use loss::Made;
 use settings::Number;
 use settings::Settings;
-use settings::sizes::frame_size;
-use settings::sizes::needed_samples;
+use sizes::frame_size;
+use sizes::needed_samples;
 use state::Answer;
 use state::State;
+use state::checks::first_refusal;
 
 // The newest N samples of each used channel as PCM; the memories after it.
 fn deemphasise(k: Settings, history: &[f32], memories: [f32; 2], pcm: &mut [f32]) -> [f32; 2]
@@ -37,7 +39,7 @@ fn deemphasise(k: Settings, history: &[f32], memories: [f32; 2], pcm: &mut [f32]
 }
 
 // From what a path made and the history that it left.
-pub(crate) fn finish(s: State, made: Made, history: &[f32], pcm: &mut [f32]) -> Answer
+fn conclude(s: State, made: Made, history: &[f32], pcm: &mut [f32]) -> Answer
     requires { ⌜ refusal s (length (now history)) (length (now pcm)) ≡ 0 ⌝ }
     ensures { λ r. ⌜ outcomeOf r (now (pcm .exit)) (now (history .entry)) ≡ inBuffer (now (pcm .entry)) (finish s made (now (history .entry))) ⌝ }
 {
@@ -61,4 +63,21 @@ pub(crate) fn finish(s: State, made: Made, history: &[f32], pcm: &mut [f32]) -> 
         samples: samples,
         state: after,
     }
+}
+
+// The end of a call. What the table refuses is answered with its number, and nothing is written.
+pub fn finish(s: State, made: Made, history: &[f32], pcm: &mut [f32]) -> Answer
+    ensures { λ r. ⌜ outcomeOf r (now (pcm .exit)) (now (history .entry))
+        ≡ inBuffer (now (pcm .entry)) (finished s made (now (history .entry)) (length (now (pcm .entry)))) ⌝ }
+{
+    let number = first_refusal(s, history.len(), pcm.len());
+    if number.value() != 0 {
+        return Answer {
+            number: number,
+            kind: 0,
+            samples: 0,
+            state: s,
+        };
+    }
+    conclude(s, made, history, pcm)
 }

@@ -1,10 +1,10 @@
--- `settings::sizes::block_factor` meets its contract.
+-- `sizes::block_factor` meets its contract.
 use borrow.Author.Tests.{le-leb, lt-leb}
-use Rattle.settings.proofs.Table.{shift-fits}
+use Rattle.sizes.proofs.Shift.{shift-fits}
 use borrow.Author.Needs.{needs}
 use Rattle.settings.specs.Settings.{blockFactor}
-use Rattle.settings.proofs.sizes.block_factor.Statement.{statement}
-use Rattle.settings.proofs.sizes.block_factor.Tie as tie
+use Rattle.sizes.proofs.block_factor.Statement.{statement}
+use Rattle.sizes.proofs.block_factor.Tie as tie
 
 cast-result : tie.Need-cast-result
 cast-result c = search needs

@@ -1,9 +1,9 @@
--- `settings::sizes::frame_size` meets its contract.
+-- `sizes::frame_size` meets its contract.
 use native.Mathlib.Omega.{arith}
 use Rattle.settings.proofs.Passed.{factor-most}
 use borrow.Author.Needs.{needs}
-use Rattle.settings.proofs.sizes.frame_size.Statement.{statement}
-use Rattle.settings.proofs.sizes.frame_size.Tie as tie
+use Rattle.sizes.proofs.frame_size.Statement.{statement}
+use Rattle.sizes.proofs.frame_size.Tie as tie
 
 block-factor-requires : tie.Need-block-factor-requires
 block-factor-requires c κs = search needs

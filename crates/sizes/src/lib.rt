@@ -1,11 +1,11 @@
-// What follows from the settings.
+// What follows from the settings of a stream: the block factor, the frame, the samples of an answer.
 ghost use mathlib.Core.Path.{_≡_};
 ghost use Prim.Native.Nat.{_*_};
 ghost use Rattle.settings.specs.Settings.{blockFactor, needed};
-use crate::Settings;
-use crate::checks::LM_MOST;
-use crate::checks::settings_pass;
 use custom_mode::standard::SHORT_BLOCK;
+use settings::Settings;
+use settings::checks::LM_MOST;
+use settings::checks::settings_pass;
 
 // The block factor m; an lm above 3 counts as 3.
 pub fn block_factor(lm: u32) -> usize

@@ -1,0 +1,2 @@
+-- The end of a call.
+pub mod Finish
