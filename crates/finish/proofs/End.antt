@@ -14,8 +14,8 @@ use Rattle.settings.proofs.Passed.{or-zero, passes}
 use Rattle.state.specs.Refusal.{checkCount, checkPcm, refusesState, refusal}
 use Rattle.state.specs.declared.State.{State}
 use Rattle.deemphasis.specs.Deemphasis.{Sound}
-use Rattle.loss.specs.Loss.{Outcome, frameSound, finishWith, finish, refused, inBuffer, soundIn}
-use Rattle.loss.specs.declared.Made.{Made}
+use Rattle.finish.specs.Finish.{Outcome, frameSound, finishWith, finish, refused, inBuffer, soundIn}
+use Rattle.finish.specs.declared.Made.{Made}
 use Rattle.finish.specs.Finish.{finishedBy, finished}
 
 module _ (s : State) (n p : ℕ) (z : refusal s n p ≡ 0) where

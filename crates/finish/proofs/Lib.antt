@@ -1,2 +1,3 @@
 mod Frames
 pub mod End
+pub mod Call

@@ -1,2 +1,3 @@
 -- The end of a call.
 pub mod Finish
+pub mod Call

@@ -6,11 +6,9 @@ ghost use Rattle.history.specs.History.{whole};
 ghost use Rattle.settings.specs.Settings.{checkSettings, needed};
 ghost use Rattle.state.specs.Refusal.{refusal};
 ghost use Rattle.deemphasis.specs.Deemphasis.{sound};
-ghost use Rattle.loss.specs.Loss.{frameSound, finish, outcomeOf, inBuffer, soundIn};
-ghost use Rattle.finish.specs.Finish.{finished};
+ghost use Rattle.finish.specs.Finish.{frameSound, finish, outcomeOf, inBuffer, soundIn, finished};
 use deemphasis_mono::deemphasis_mono;
 use deemphasis_stereo::deemphasis_stereo;
-use loss::Made;
 use settings::Number;
 use settings::Settings;
 use sizes::frame_size;
@@ -18,6 +16,15 @@ use sizes::needed_samples;
 use state::Answer;
 use state::State;
 use state::checks::first_refusal;
+
+// What a path made of a state.
+pub struct Made {
+    pub kind: u32,
+    pub seed: u32,
+    pub lag: u32,
+    pub coarse: [f32; 50],
+    pub predictor: [f32; 48],
+}
 
 // The newest N samples of each used channel as PCM; the memories after it.
 fn deemphasise(k: Settings, history: &[f32], memories: [f32; 2], pcm: &mut [f32]) -> [f32; 2]

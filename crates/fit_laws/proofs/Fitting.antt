@@ -22,7 +22,7 @@ use Rattle.pitch_lag.specs.Lag.{lagOf}
 use Rattle.noise_energies.specs.Energies.{length-lowerEnergies}
 use Rattle.noise_loss.specs.Loss.{noiseBlocks, noiseSeed}
 use Rattle.deemphasis.specs.Deemphasis.{length-memories}
-use Rattle.loss.specs.declared.Made.{Made}
+use Rattle.finish.specs.declared.Made.{Made}
 use Rattle.loss.specs.Loss.{lowered, blocks, noiseMade, pitchMade, made, tailsByNoise, tailsByPitch, tailsAfter, historyAfter, frameSound, finish, concealed, refused, answered, loss}
 use Rattle.loss.proofs.Fields.{made-lag}
 use Rattle.loss.proofs.Keep.{after-length}

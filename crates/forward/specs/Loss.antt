@@ -12,7 +12,7 @@ use Rattle.state.specs.State.{core, noisy}
 use Rattle.state.specs.Refusal.{refusal}
 use Rattle.state.specs.declared.State.{State}
 use Rattle.extrapolate.specs.Extrapolate.{order}
-use Rattle.loss.specs.declared.Made.{Made}
+use Rattle.finish.specs.declared.Made.{Made}
 use Rattle.loss.specs.Loss.{Outcome, made, tailsByNoise, finish, refused}
 use Rattle.forward.specs.Forward.{forwardTail}
 

@@ -1,12 +1,12 @@
 -- What every call is known to do.
-use mathlib.Core.Path.{_≡_, refl, ap, _∙_}
+use mathlib.Core.Path.{_≡_, ap, _∙_}
 use mathlib.Core.Bool.{cond, false}
 use mathlib.Core.List.{List}
 use Prim.Native.Nat.{ℕ, suc}
 use lib.ListN.{length}
 use lib.Ieee.{Float}
 use Rattle.settings.specs.Settings.{stereo, needed}
-use Rattle.settings.proofs.Passed.{or-zero, needed-is}
+use Rattle.settings.proofs.Passed.{or-zero}
 use Rattle.state.specs.State.{searches}
 use Rattle.state.specs.Refusal.{checkPcm, refusesState, refusal}
 use Rattle.state.specs.declared.State.{State}
@@ -14,9 +14,11 @@ use Rattle.state.proofs.Keep.{ok-start}
 use Rattle.pitch_lag.specs.Lag.{lagOf}
 use Rattle.pitch_predictor.specs.Predictor.{fittedTo}
 use Rattle.history.specs.History.{tails}
-use Rattle.loss.specs.Loss.{made, frameSound, finish, concealed, refused, answered, loss}
+use Rattle.loss.specs.Loss.{made, historyAfter, finish, concealed, answered, loss}
 use Rattle.loss.proofs.Fields.{made-kind, made-undrawn, made-lag, made-predictor}
-use Rattle.loss.specs.Call.{Refused, Accepted}
+use Rattle.finish.specs.Call.{Refused}
+use Rattle.finish.proofs.Call.{finish-concludes, refused-leaves}
+use Rattle.loss.specs.Call.{Accepted}
 
 module _ (s : State) (h : List Float) where
   made-carried : searches s ≡ false → (made s h .lag ≡ s .lag) × (made s h .predictor ≡ s .predictor)
@@ -25,26 +27,20 @@ module _ (s : State) (h : List Float) where
     made-predictor s h ∙ ap (λ b. cond b (fittedTo (stereo (s .settings)) (s .predictor) (tails h)) (s .predictor)) e,
   )
 
-  accepted : refusesState s (length h) ≡ 0 → Accepted s (concealed s h)
-  unfolding concealed finish frameSound
+  accepted : refusesState s (length h) ≡ 0 → Accepted s h (concealed s h)
+  unfolding concealed finish
   accepted z = record {
-    number = refl;
+    ended = finish-concludes s (made s h) (historyAfter s h) (ok-start s h z .settings);
     kind = made-kind s h;
-    samples = needed-is (s .settings) (ok-start s h z .settings);
-    heard = refl;
-    count = refl;
-    settings = refl;
-    filter = refl;
-    background = refl;
     undrawn = made-undrawn s h;
     carried = made-carried;
   }
 
   module _ (p : ℕ) where
-    pub accepted-call : refusal s (length h) p ≡ 0 → Accepted s (loss s h p)
+    pub accepted-call : refusal s (length h) p ≡ 0 → Accepted s h (loss s h p)
     unfolding loss answered refusal
     accepted-call z = rw z (accepted (or-zero (refusesState s (length h)) (checkPcm (needed (s .settings)) p) z .0))
 
     pub refused-call : (n : ℕ) → refusal s (length h) p ≡ suc n → Refused (suc n) s h (loss s h p)
-    unfolding loss answered refused
-    refused-call n e = rw e (record { number = refl; kind = refl; samples = refl; pcm = refl; state = refl; history = refl })
+    unfolding loss answered
+    refused-call n e = rw e (refused-leaves (suc n) s h)

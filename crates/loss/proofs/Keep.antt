@@ -20,7 +20,7 @@ use Rattle.state.proofs.Keep.{Ok, lag-range, range-lag}
 use Rattle.pitch_lag.specs.Lag.{lagOf}
 use Rattle.pitch_loss.proofs.Tails.{pitches-sized}
 use Rattle.loss.specs.Loss.{blocks, made, tailsByNoise, tailsByPitch, tailsAfter, historyAfter, finish, concealed}
-use Rattle.loss.specs.declared.Made.{Made}
+use Rattle.finish.specs.declared.Made.{Made}
 use Rattle.loss.proofs.Fields.{made-lag}
 use Rattle.loss.proofs.Lags.{lag-low, lag-high}
 use Rattle.loss.proofs.Laws.{noises-sized}

@@ -1,26 +1,23 @@
 -- One loss: a call to conceal a frame, lent a history and a PCM buffer.
 use mathlib.Core.Bool.{cond}
-use mathlib.Core.List.{List, []}
-use Prim.Native.Nat.{ℕ, zero, suc, _+_}
+use mathlib.Core.List.{List}
+use Prim.Native.Nat.{ℕ, zero, suc}
 use lib.ListN.{length}
 use lib.Dec.{eqb}
 use lib.Ieee.{Float}
-use Rattle.loops.specs.Front.{front}
-use Rattle.history.specs.History.{Tails, tails, withTails, newest}
-use Rattle.settings.specs.Settings.{frame, stereo, needed}
+use Rattle.history.specs.History.{Tails, tails, withTails}
+use Rattle.settings.specs.Settings.{frame, stereo}
 use Rattle.state.specs.State.{Core, core, noisy, searches}
 use Rattle.state.specs.Refusal.{refusal}
-use Rattle.state.specs.Answer.{Report, reportOf}
-use Rattle.settings.specs.declared.Settings.{Settings}
 use Rattle.state.specs.declared.State.{State}
-use Rattle.state.specs.declared.Answer.{Answer}
 use Rattle.pitch_lag.specs.Lag.{lagOf}
 use Rattle.pitch_predictor.specs.Predictor.{fittedTo}
 use Rattle.pitch_loss.specs.PitchLoss.{pitchTails}
 use Rattle.noise_energies.specs.Energies.{lowerEnergies, readEnergies}
 use Rattle.noise_loss.specs.Loss.{Blocks, noiseBlocks, noiseSeed, noiseTails}
-use Rattle.deemphasis.specs.Deemphasis.{Sound, sound, deemphasis}
-use Rattle.loss.specs.declared.Made.{Made}
+use Rattle.finish.specs.declared.Made.{Made}
+pub use Rattle.finish.specs.Finish.{Outcome, finishWith, outcomeOf, written}
+unfoldable pub use Rattle.finish.specs.Finish.{frameSound, finish, refused, inBuffer, soundIn}
 
 -- ---- the noise path: all of it but the old overlaps' part is a function of the core
 
@@ -72,46 +69,9 @@ historyAfter s h = withTails h (tailsAfter s (made s h) (tails h))
 
 -- ---- the whole call
 
-pub record Outcome : Type 0 where
-  pub report : Report
-  -- the samples written
-  pub pcm : List Float
-  pub state : State
-  pub history : List Float
-
--- de-emphasis of the newest N of each used channel
-unfoldable pub frameSound : Settings → List Float → List Float → Sound
-frameSound k memories h = deemphasis (k .downsample) (newest (stereo k) (frame k) h) memories
-
--- an accepted loss, from what its path made, the history that it left, its sound and its number of samples
-abbrev pub finishWith : State → Made → List Float → Sound → ℕ → Outcome
-finishWith s m h y n = record {
-  report = record { number = 0; kind = m .kind; samples = n };
-  pcm = y .pcm;
-  state = record {
-    settings = s .settings;
-    «loss_count» = s .«loss_count» + 1;
-    seed = m .seed;
-    lag = m .lag;
-    filter = s .filter;
-    coarse = m .coarse;
-    background = s .background;
-    memories = y .memories;
-    predictor = m .predictor;
-  };
-  history = h;
-}
-
-unfoldable pub finish : State → Made → List Float → Outcome
-finish s m h = finishWith s m h (frameSound (s .settings) (s .memories) h) (needed (s .settings))
-
 -- an accepted loss
 unfoldable pub concealed : State → List Float → Outcome
 concealed s h = finish s (made s h) (historyAfter s h)
-
--- a refused one leaves all as it was
-unfoldable pub refused : ℕ → State → List Float → Outcome
-refused n s h = record { report = record { number = n; kind = 0; samples = 0 }; pcm = []; state = s; history = h }
 
 -- by the number
 unfoldable pub answered : ℕ → State → List Float → Outcome
@@ -121,18 +81,3 @@ answered (suc n) s h = refused (suc n) s h
 -- one call, lent a PCM buffer of p samples
 unfoldable pub loss : State → List Float → ℕ → Outcome
 loss s h p = answered (refusal s (length h) p) s h
-
--- ---- the same as a caller finds it: the answer, the PCM buffer and the history
-
-abbrev pub outcomeOf : Answer → List Float → List Float → Outcome
-outcomeOf a pcm h = record { report = reportOf a; pcm = pcm; state = a .state; history = h }
-
--- samples written into a buffer's first places; the rest of a longer one is as it was
-abbrev pub written : List Float → List Float → List Float
-written x p = front x p (length x)
-
-unfoldable pub inBuffer : List Float → Outcome → Outcome
-inBuffer p o = record { report = o .report; pcm = written (o .pcm) p; state = o .state; history = o .history }
-
-unfoldable pub soundIn : List Float → Sound → Sound
-soundIn p y = sound (written (y .pcm) p) (y .memories)

@@ -11,7 +11,7 @@ use Rattle.state.specs.Refusal.{refusal}
 use Rattle.state.specs.declared.State.{State}
 use Rattle.loss.specs.Loss.{noiseMade, pitchMade, made, tailsByNoise, tailsByPitch, tailsAfter, historyAfter}
 use Rattle.loss.specs.Loss.{Outcome, finish, concealed, refused, answered, loss, inBuffer}
-use Rattle.loss.specs.declared.Made.{Made}
+use Rattle.finish.specs.declared.Made.{Made}
 use Rattle.finish.specs.Finish.{finished}
 use Rattle.finish.proofs.End.{finished-accepted}
 

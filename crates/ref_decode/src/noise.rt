@@ -5,7 +5,7 @@ ghost use Rattle.history.specs.History.{tails, withTails};
 ghost use Rattle.state.specs.Refusal.{refusesState};
 ghost use Rattle.loss.specs.Loss.{noiseMade, tailsByNoise};
 use crate::NOISE_KIND;
-use loss::Made;
+use finish::Made;
 use noise_energies::lower_energies;
 use noise_energies::read_energies;
 use noise_loss::noise_loss;

@@ -9,7 +9,7 @@ ghost use Rattle.pitch_lag.specs.Lag.{lagOf};
 ghost use Rattle.pitch_predictor.specs.Predictor.{fittedTo};
 ghost use Rattle.loss.specs.Loss.{pitchMade, tailsByPitch};
 use crate::PITCH_KIND;
-use loss::Made;
+use finish::Made;
 use pitch_lag::find_lag;
 use pitch_loss::pitch_loss;
 use pitch_predictor::fit_predictor;

@@ -20,7 +20,7 @@ use Rattle.settings.proofs.Passed.{frame-high}
 use Rattle.state.proofs.Keep.{Ok, ok-start, gate, ok-gate, noisy-more}
 use Rattle.deemphasis.specs.Deemphasis.{Sound, deemphasis}
 use Rattle.noise_loss.specs.Loss.{noiseSeed}
-use Rattle.loss.specs.declared.Made.{Made}
+use Rattle.finish.specs.declared.Made.{Made}
 use Rattle.loss.specs.Loss.{Outcome, lowered, blocks, noiseMade, pitchMade, made, tailsAfter, historyAfter, frameSound, finish, concealed, refused, answered, loss}
 use Rattle.runs.specs.Run.{Call, called, run, lastState, lastHistory, noiseCount, noiseLosses, EachCall, SameButOldest, ahead, SameAhead, Limited}
 use Rattle.loss.proofs.Keep.{after-tails, ok-after}
