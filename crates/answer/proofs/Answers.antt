@@ -1,17 +1,16 @@
 -- The answer's bytes, part by part.
-use mathlib.Core.Path.{_≡_, refl, ap, ap₂, _∙_, sym, subst}
+use mathlib.Core.Path.{_≡_, ap, _∙_, sym, subst}
 use mathlib.Core.Bool.{true, false, cond}
 use mathlib.Core.List.{List, [], _∷_, _++_}
 use Prim.Native.Nat.{ℕ, _+_, _*_, _≤_, _<_}
 use native.Mathlib.Omega.{arith}
-use lib.ListN.{length, getD, take, drop, length-append}
+use lib.ListN.{length, take, drop, length-append}
 use lib.Seq.{take-at}
 use lib.Dec.{leb, eqb}
 use lib.Ieee.{Float}
 use borrow.Author.Tests.{eq-eqb, ne-eqb, le-leb, lt-leb}
 use Rattle.loops.specs.Front.{front}
 use Rattle.loops.specs.Logic.{and-both, and-first, and-second, cond-either}
-use Rattle.loops.specs.Part.{put}
 use Rattle.loops.specs.Pick.{pick-true, pick-false}
 use Rattle.history.specs.History.{whole}
 use Rattle.settings.specs.Number.{numberOf}
@@ -21,22 +20,11 @@ use Rattle.state.specs.declared.State.{State}
 use Rattle.loss.specs.Loss.{loss, outcomeOf, inBuffer}
 use Rattle.loss.proofs.Samples.{loss-samples}
 use Rattle.words.specs.Bytes.{wordsBytes, floatsBytes, floatsAt}
-use Rattle.words.proofs.Laws.{length-bytes, put-front, put-next}
+use Rattle.words.proofs.Laws.{length-bytes}
 use Rattle.record.specs.Record.{recordLength, stateOf, historyOf, recordOf}
-use Rattle.answer.specs.Answer.{samplesMost, reportLength, headMost, lossOf, headOf, recordAfter, cutOf, Headed, headed, headedBy, Answered, withRecord, takes, answerRecord, answerTail}
-
--- three words, and then the samples
-pub head-parts : (a b c n : ℕ) (xs : List Float) (h y z : List ℕ) → length xs ≡ n → y ≡ put 0 12 (wordsBytes (a ∷ b ∷ c ∷ [])) h
-    → z ≡ put 12 (4 * length xs) (floatsBytes xs) y → headed (12 + 4 * n) z ≡ headedBy (wordsBytes (a ∷ b ∷ c ∷ []) ++ floatsBytes xs) h
-head-parts a b c n xs h y z l p q =
-    let w = wordsBytes (a ∷ b ∷ c ∷ []) in
-    let x = floatsBytes xs in
-    let lw : length w ≡ 12 = length-bytes _ 3 in
-    let lx : length x ≡ 4 * length xs = length-bytes _ _ in
-    let count : 12 + 4 * n ≡ length (w ++ x) = omega (arith, length-append w x) in
-    let bytes : z ≡ front (w ++ x) h (12 + 4 * length xs) =
-    q ∙ ap (put 12 (4 * length xs) x) (p ∙ put-front 12 w h) ∙ put-next 12 (4 * length xs) w x h lw in
-    ap₂ headed count (bytes ∙ ap (front (w ++ x) h) (ap (λ m. 12 + 4 * m) l ∙ count))
+use Rattle.answer_head.specs.Head.{samplesMost, headMost, Headed, headed, headedBy, headWritten}
+use Rattle.answer_head.proofs.Heads.{head-fits, head-written}
+use Rattle.answer.specs.Answer.{lossOf, headOf, recordAfter, Answered, withRecord, takes, answerRecord}
 
 -- what the samples written leave at the front of a buffer
 pub front-taken : (xs ys : List Float) (n : ℕ) → length xs ≡ n → take n (front xs ys (length xs)) ≡ xs
@@ -64,16 +52,18 @@ module _ (b : List ℕ) (a : Answer) (p q g : List Float) (made : outcomeOf a q 
   samples-most = subst (λ (z : Report). z .samples ≤ samplesMost) (sym report) (outcome-samples b .1)
 
   -- the head
-  pub head-is : (h : Headed) (lent : List ℕ) (number : ℕ) → number ≡ numberOf (a .number)
-      → h ≡ headedBy (wordsBytes (number ∷ a .kind ∷ a .samples ∷ []) ++ floatsBytes (take (a .samples) q)) lent → h ≡ headedBy (headOf (lossOf b)) lent
+  pub head-is : (h : Headed) (lent : List ℕ) (number : ℕ) → length q ≡ samplesMost → headMost ≤ length lent → number ≡ numberOf (a .number)
+      → h ≡ headWritten number (a .kind) (a .samples) q lent → h ≡ headedBy (headOf (lossOf b)) lent
   unfolding headOf inBuffer
-  head-is h lent number e f =
+  head-is h lent number w r e f =
       let o = lossOf b in
       let n : number ≡ o .report .number = e ∙ ap (λ z. z .number) report in
       let k : a .kind ≡ o .report .kind = ap (λ z. z .kind) report in
       let m : a .samples ≡ o .report .samples = ap (λ z. z .samples) report in
       let t : take (a .samples) q ≡ o .pcm = ap (λ z. take (a .samples) (z .pcm)) made ∙ front-taken (o .pcm) p (a .samples) (outcome-samples b .0 ∙ sym m) in
-      f ∙ (λ i. headedBy (wordsBytes (n i ∷ k i ∷ m i ∷ []) ++ floatsBytes (t i)) lent)
+      let fits = head-fits (a .samples) (length q) (length lent) r samples-most (omega (arith, samples-most)) in
+      f ∙ head-written number (a .kind) (a .samples) q lent fits
+      ∙ (λ i. headedBy (wordsBytes (n i ∷ k i ∷ m i ∷ []) ++ floatsBytes (t i)) lent)
 
   -- the record
   pub record-is : (y : List ℕ) (number : ℕ) → number ≡ numberOf (a .number) → y ≡ cond (eqb number 0) (recordOf (a .state) g) b → y ≡ recordAfter b
@@ -104,23 +94,6 @@ module _ (b h : List ℕ) where
   unfolding answerRecord
   answers e q = q ∙ sym (pick-true (takes b h) (withRecord (headedBy (headOf (lossOf b)) h) (recordAfter b)) (withRecord (headed 0 h) b) e)
 
--- what is left past the last whole record
-module _ (n : ℕ) (h : List ℕ) where
-  pub tail-no-room : length h < reportLength → headed 0 h ≡ answerTail n h
-  unfolding answerTail
-  tail-no-room l = sym (pick-false (leb reportLength (length h)) (headedBy (cutOf n) h) (headed 0 h) (lt-leb reportLength (length h) l))
-
-  pub tail-none : reportLength ≤ length h → n ≡ 0 → headed 0 h ≡ answerTail n h
-  unfolding answerTail cutOf front
-  tail-none l e = simp (le-leb reportLength (length h) l, eq-eqb n 0 e) refl
-
-  pub tail-cut : reportLength ≤ length h → (n ≡ 0 → ⊥) → (z : List ℕ) → z ≡ put 0 12 (wordsBytes (11 ∷ 0 ∷ 0 ∷ [])) h → headed 12 z ≡ answerTail n h
-  unfolding answerTail cutOf
-  tail-cut l f z e =
-      let w = wordsBytes (11 ∷ 0 ∷ 0 ∷ []) in
-      let k : length w ≡ 12 = length-bytes _ 3 in
-      simp (le-leb reportLength (length h) l, ne-eqb n 0 f) (ap₂ headed (sym k) (e ∙ put-front 12 w h ∙ ap (front w h) (sym k)))
-
 -- an answer's length is at most that of the buffer it needs
 head-most : (b : List ℕ) → length (headOf (lossOf b)) ≤ headMost
 unfolding headOf
@@ -131,18 +104,8 @@ head-most b =
     let lx : length (floatsBytes (o .pcm)) ≡ 4 * length (o .pcm) = length-bytes _ _ in
     omega (arith, length-append w (floatsBytes (o .pcm)), outcome-samples b .0, outcome-samples b .1)
 
-cut-most : (n : ℕ) → length (cutOf n) ≤ reportLength
-unfolding cutOf
-cut-most n = cond-either (λ x. length x ≤ reportLength) (eqb n 0) [] (wordsBytes (11 ∷ 0 ∷ 0 ∷ [])) (omega arith) (omega (arith, length-bytes (λ (i : ℕ). getD (11 ∷ 0 ∷ 0 ∷ []) i 0) 3))
-
 pub answer-most : (r : ℕ) (z y b h : List ℕ) → withRecord (headed r z) y ≡ answerRecord b h → r ≤ headMost
 unfolding answerRecord
 answer-most r z y b h e =
     subst (λ n. n ≤ headMost) (ap (λ a. a .headed .count) (sym e))
     (cond-either (λ (a : Answered). a .headed .count ≤ headMost) (takes b h) _ _ (head-most b) (omega arith))
-
-pub tail-most : (r n : ℕ) (z h : List ℕ) → headed r z ≡ answerTail n h → r ≤ reportLength
-unfolding answerTail
-tail-most r n z h e =
-    subst (λ m. m ≤ reportLength) (ap (λ a. a .count) (sym e))
-    (cond-either (λ (a : Headed). a .count ≤ reportLength) (leb reportLength (length h)) _ _ (cut-most n) (omega arith))

@@ -1,28 +1,19 @@
-// The answer to one record, and to what is left past the last whole one.
+// The answer to one record.
 ghost use mathlib.Core.Path.{_≡_};
 ghost use mathlib.Core.Bool.{cond};
-ghost use mathlib.Core.List.{[], _∷_, _++_};
-ghost use Prim.Native.Nat.{_+_, _*_, _≤_};
-ghost use lib.ListN.{length, take};
+ghost use Prim.Native.Nat.{_≤_};
+ghost use lib.ListN.{length};
 ghost use lib.Dec.{eqb};
 ghost use Rattle.history.specs.History.{whole};
 ghost use Rattle.loss.specs.Loss.{outcomeOf, inBuffer};
-ghost use Rattle.words.specs.Bytes.{wordsBytes, floatsBytes};
 ghost use Rattle.record.specs.Record.{recordLength, recordOf};
-ghost use Rattle.answer.specs.Answer.{samplesMost, headMost, lossOf, headOf, recordAfter, headed, headedBy, withRecord, answerRecord, answerTail};
+ghost use Rattle.answer_head.specs.Head.{samplesMost, headMost, headed, headedBy};
+ghost use Rattle.answer.specs.Answer.{lossOf, headOf, recordAfter, withRecord, answerRecord};
+use answer_head::HEAD_BYTES;
+use answer_head::SAMPLES_MOST;
+use answer_head::write_head;
 use state::Answer;
 use state::State;
-
-// The samples of the longest answer: two channels of 960.
-const SAMPLES_MOST: usize = 1_920;
-
-// The bytes of number, kind and sample count.
-const REPORT_BYTES: usize = 12;
-
-pub const HEAD_BYTES: usize = 7_692;
-
-// The number that a record cut short gets.
-const CUT_SHORT: u32 = 11;
 
 // One loss on a record's state and history.
 fn conceal_record(rec: &[u8], history: &mut [f32], pcm: &mut [f32]) -> Answer
@@ -42,19 +33,6 @@ fn keep_record(rec: &mut [u8], number: u32, s: State, history: &[f32])
     if number == 0 {
         record::write_record(rec, s, history);
     }
-}
-
-// Number, kind and sample count, and then the samples.
-fn write_head(head: &mut [u8], number: u32, kind: u32, samples: usize, pcm: &[f32]) -> usize
-    requires { ⌜ (samples ≤ length (now pcm)) × (samples ≤ samplesMost) × (headMost ≤ length (now head)) ⌝ }
-    ensures { λ r. ⌜ headed r (now (head .exit))
-        ≡ headedBy (wordsBytes (number ∷ kind ∷ samples ∷ []) ++ floatsBytes (take samples (now (pcm .entry)))) (now (head .entry)) ⌝ }
-{
-    let count = samples as u32;
-    let report = [number, kind, count];
-    put_words::put_words_at(head, 0, &report);
-    put_words::put_floats_at(head, 3, &pcm[..samples]);
-    REPORT_BYTES + 4 * samples
 }
 
 fn answer(rec: &mut [u8], head: &mut [u8]) -> usize
@@ -84,20 +62,4 @@ pub fn answer_record(rec: &mut [u8], head: &mut [u8]) -> usize
         return 0;
     }
     answer(rec, head)
-}
-
-// The step for what is left past the last whole record, n bytes of it: nothing for none, and else 11, 0, 0.
-// A `head` of less than 12 bytes stays.
-pub fn answer_tail(n: usize, head: &mut [u8]) -> usize
-    ensures { λ r. ⌜ headed r (now (head .exit)) ≡ answerTail n (now (head .entry)) ⌝ }
-{
-    if head.len() < REPORT_BYTES {
-        return 0;
-    }
-    if n == 0 {
-        return 0;
-    }
-    let report = [CUT_SHORT, 0u32, 0u32];
-    put_words::put_words_at(head, 0, &report);
-    REPORT_BYTES
 }

@@ -11,7 +11,8 @@ use borrow.Author.Tests.{ltb-true, ltb-false, le-leb, eq-eqb}
 use Rattle.loops.specs.Front.{front}
 use Rattle.loops.specs.Pick.{pick-true}
 use Rattle.record.specs.Record.{recordLength}
-use Rattle.answer.specs.Answer.{headMost, reportLength, lossOf, headOf, recordAfter, cutOf, answersTo, answers, headed, headedBy, withRecord, takes, answerRecord, answerTail}
+use Rattle.answer_head.specs.Head.{headMost, reportLength, cutOf, headed, headedBy, answerTail}
+use Rattle.answer.specs.Answer.{lossOf, headOf, recordAfter, answersTo, answers, withRecord, takes, answerRecord}
 use Rattle.answer_laws.specs.Program.{buffer, headBytes, wholeStep, program}
 
 -- what stands at the front of a head is written

@@ -5,7 +5,8 @@ use Prim.Native.Nat.{ℕ, zero, suc}
 use lib.ListN.{length, take, drop, replicate}
 use lib.Dec.{ltb}
 use Rattle.record.specs.Record.{recordLength}
-use Rattle.answer.specs.Answer.{headMost, Headed, answerRecord, answerTail}
+use Rattle.answer_head.specs.Head.{headMost, Headed, answerTail}
+use Rattle.answer.specs.Answer.{answerRecord}
 
 -- the buffer that is lent for a head
 abbrev pub buffer : List ℕ

@@ -19,8 +19,8 @@ fn say_cut(whole: u64) {
 
 // What is left past the last whole record, n bytes.
 fn answer_rest(n: usize, whole: u64) {
-    let mut head = [0u8; answer::HEAD_BYTES];
-    let cut = answer::answer_tail(n, &mut head);
+    let mut head = [0u8; answer_head::HEAD_BYTES];
+    let cut = answer_head::answer_tail(n, &mut head);
     if cut > 0 {
         say_cut(whole);
         written(&head[..cut]);
@@ -28,7 +28,7 @@ fn answer_rest(n: usize, whole: u64) {
 }
 
 fn answer_whole(rec: &mut [u8]) -> bool {
-    let mut head = [0u8; answer::HEAD_BYTES];
+    let mut head = [0u8; answer_head::HEAD_BYTES];
     let n = answer::answer_record(rec, &mut head);
     if !written(&head[..n]) {
         return false;

@@ -29,7 +29,7 @@ use Rattle.pitch_predictor.specs.Predictor.{fittedTo}
 use Rattle.pitch_loss.specs.PitchLoss.{extra, tailAfter, pitchTail, pitchTails}
 use Rattle.noise_block.specs.Block.{windowed, noiseBlock}
 use Rattle.noise_energies.specs.Energies.{energyDrop, drops, droppedAt, lowerEnergies}
-use Rattle.noise_loss.specs.Cover.{overlapped, coveredTail}
+use Rattle.noise_cover.specs.Cover.{overlapped, coveredTail}
 use Rattle.noise_loss.specs.Loss.{channelBlock, noiseBlocks, noiseTails}
 use Rattle.deemphasis.specs.Deemphasis.{nextMemory, memoryTo, deemphasis}
 use Rattle.settings.specs.declared.Settings.{Settings}

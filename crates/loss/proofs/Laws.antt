@@ -16,7 +16,7 @@ use Rattle.settings.specs.Settings.{factor, frame, firstBin, checkSettings}
 use Rattle.settings.specs.declared.Settings.{Settings}
 use Rattle.settings.proofs.Passed.{frame-low, frame-high}
 use Rattle.noise_block.specs.Block.{length-block, block-seed}
-use Rattle.noise_loss.specs.Cover.{overlapped, coveredTail, length-covered-new, length-covered-over}
+use Rattle.noise_cover.specs.Cover.{overlapped, coveredTail, length-covered-new, length-covered-over}
 use Rattle.noise_loss.specs.Loss.{channelBlock, noiseBlocks, noiseTails}
 
 pub block-samples : (k : Settings) (seed : ℕ) (e : List Float) → length (channelBlock k seed e .samples) ≡ frame k + overlap

@@ -1,3 +1,2 @@
 -- A noise loss: the blocks over a history.
-pub mod Cover
 pub mod Loss

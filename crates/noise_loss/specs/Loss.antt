@@ -10,7 +10,7 @@ use Rattle.history.specs.History.{whole, Tails, tails, withTails}
 use Rattle.settings.specs.Settings.{factor, frame, stereo, checkSettings}
 use Rattle.settings.specs.declared.Settings.{Settings}
 use Rattle.noise_block.specs.Block.{Block, noiseBlock}
-use Rattle.noise_loss.specs.Cover.{coveredTail}
+use Rattle.noise_cover.specs.Cover.{coveredTail}
 
 -- the block of one channel: a function of settings, seed and the channel's 25 energies alone
 unfoldable pub channelBlock : Settings → ℕ → List Float → Block

@@ -7,15 +7,14 @@ ghost use Rattle.loops.specs.Reply.{reply, replyIf};
 ghost use Rattle.custom_mode.specs.Mode.{maxBands};
 ghost use Rattle.history.specs.History.{half, overlap, channel, whole, tailAt, tailList};
 ghost use Rattle.settings.specs.Settings.{frame, checkSettings};
-ghost use Rattle.noise_loss.specs.Cover.{coveredTail};
+ghost use Rattle.noise_cover.specs.Cover.{coveredTail};
 ghost use Rattle.noise_loss.specs.Loss.{channelBlock, noised, afterNoise, noiseTakes};
 use noise_block::Drawn;
 use noise_block::noise_block;
+use noise_cover::lay;
 use settings::Settings;
 use settings::checks::settings_pass;
 use sizes::frame_size;
-
-mod cover;
 
 // The longest block: a frame of 960 samples and the overlap.
 const BLOCK_MOST: usize = 1080;
@@ -37,7 +36,7 @@ fn noise_channel(history: &mut [f32], at: usize, k: Settings, seed: u32, energie
     let drawn = noise_block(&mut block[..size], lm, first, last, d, seed, energies);
     let from = at + (history::SAMPLES - n);
     let end = at + history::CHANNEL;
-    cover::lay(&mut history[from..end], &block[..size], n);
+    lay(&mut history[from..end], &block[..size]);
     drawn.seed
 }
 

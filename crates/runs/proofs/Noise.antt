@@ -20,7 +20,7 @@ use Rattle.settings.specs.declared.Settings.{Settings}
 use Rattle.state.specs.declared.State.{State}
 use Rattle.settings.proofs.Passed.{passed, frame-high}
 use Rattle.state.proofs.Keep.{Ok}
-use Rattle.noise_loss.specs.Cover.{overlapped, coveredTail}
+use Rattle.noise_cover.specs.Cover.{overlapped, coveredTail}
 use Rattle.noise_loss.specs.Loss.{noiseBlocks, noiseSeed, noiseTails}
 use Rattle.loss.specs.Loss.{blocks, made, tailsByNoise, tailsByPitch, tailsAfter, historyAfter}
 use Rattle.runs.specs.Run.{ahead}

@@ -3,7 +3,7 @@ use mathlib.Core.Path.{ap₂}
 use native.Mathlib.Omega.{arith}
 use borrow.Author.Needs.{needs}
 use Rattle.answer.specs.Answer.{withRecord}
-use Rattle.answer.proofs.Answers.{samples-most, head-is, record-is}
+use Rattle.answer.proofs.Answers.{head-is, record-is}
 use Rattle.answer.proofs.answer.Statement.{statement}
 use Rattle.answer.proofs.answer.Tie as tie
 
@@ -29,11 +29,7 @@ slice-aggregate-write-head : tie.Need-slice-aggregate-write-head
 slice-aggregate-write-head c = search needs
 
 write-head-requires : tie.Need-write-head-requires
-write-head-requires c κs =
-    let start = c .before .before .before .before .before .before .before .before .before .before .before .before .before .before .before .before .before in
-    let call = c .before .before .before .before .before .before .before .before .before .before .before .conceal-record in
-    let most = samples-most (start .args .rec .now) (call .result) _ _ _ (call .ensures) in
-    (omega (arith, call .kept .1 .1 .0), most, omega (arith, start .pre .1))
+write-head-requires c κs = search needs
 
 same-length : tie.Need-same-length
 same-length c = search needs
@@ -50,7 +46,7 @@ returns c =
     let b = start .args .rec .now in
     let made = call .conceal-record .ensures in
     let number = value .value .ensures in
-    let head = head-is b (call .conceal-record .result) _ _ _ made _ (start .args .head .now) _ number (c .before .before .write-head .ensures) in
+    let head = head-is b (call .conceal-record .result) _ _ _ made _ (start .args .head .now) _ (omega (arith, call .conceal-record .kept .1 .1 .0)) (start .pre .1) number (c .before .before .write-head .ensures) in
     ap₂ withRecord head (record-is b (call .conceal-record .result) _ _ _ made _ _ number (keep .keep-record .ensures))
 
 pub answer-spec : {M : Type 1} → statement M

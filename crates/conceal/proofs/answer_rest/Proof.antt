@@ -3,7 +3,7 @@ use mathlib.Core.Path.{sym}
 use native.Mathlib.Omega.{arith}
 use lib.Seq.{length-take-le}
 use borrow.Author.Needs.{needs}
-use Rattle.answer.proofs.Answers.{tail-most}
+use Rattle.answer_head.proofs.Heads.{tail-most}
 use Rattle.conceal.proofs.answer_rest.Statement.{statement}
 use Rattle.conceal.proofs.answer_rest.Tie as tie
 

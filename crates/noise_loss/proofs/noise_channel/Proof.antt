@@ -13,9 +13,10 @@ use Rattle.settings.specs.Settings.{frame}
 use Rattle.settings.proofs.Passed.{frame-is, frame-low, frame-high}
 use Rattle.noise_block.specs.Block.{Block, drawnBlock}
 use Rattle.noise_block.proofs.Calls.{lent-count, back-size, back-is, back-in, back-count}
-use Rattle.noise_loss.specs.Cover.{overlapped, coveredTail}
+use Rattle.noise_cover.specs.Cover.{overlapped, coveredTail}
+use Rattle.noise_cover.proofs.Tails.{laid-is, cover-is}
 use Rattle.noise_loss.specs.Loss.{channelBlock}
-use Rattle.noise_loss.proofs.Channels.{block-drawn, cover-is}
+use Rattle.noise_loss.proofs.Channels.{block-drawn}
 use Rattle.noise_loss.proofs.noise_channel.Statement.{statement}
 use Rattle.noise_loss.proofs.noise_channel.Tie as tie
 
@@ -102,18 +103,7 @@ slice-aggregate-lay c =
     back-count (n-of o + 120) 1080 (small o) (b .last .0) (b .kept .0)
 
 lay-requires : tie.Need-lay-requires
-lay-requires c κs =
-    let o = c .before .before .before .before .before .before .before .before .before in
-    let b = c .before .before .before .noise-block in
-    let a = o .before .before .before .args in
-    let z = sized o in
-    let from = a .at + (2048 - n-of o) in
-    let h = a .history .now in
-    let l : a .at + 2168 ≤ length h = o .before .before .before .pre .1 in (
-      z .0,
-      length-take-le (a .at + 2168 - from) (drop from h) (omega (arith, length-drop from h)) ∙ omega arith,
-      sym (back-count (n-of o + 120) 1080 (small o) (b .last .0) (b .kept .0)),
-    )
+lay-requires c κs = search needs
 
 same-length : tie.Need-same-length
 same-length c = search needs
@@ -137,7 +127,10 @@ returns c =
     let e : drawnBlock y (b .result .seed) ≡ channelBlock k (a .seed) (a .energies .now) =
     block-drawn k (t .pre .0) (a .energies .now) part y (a .seed) (b .result .seed) (b .result .taken) (t .pre .2) w (b .ensures) in
     let f : c .before .before .lay .last .0 ≡ overlapped y (drop n (take m (drop from h))) ++ drop overlap y =
-    c .before .before .lay .ensures
+    laid-is n (take m (drop from h)) _ _ _ (z .0)
+    (length-take-le m (drop from h) (omega (arith, length-drop from h)) ∙ omega arith)
+    (sym (back-count (n + 120) 1080 (small o) y (b .kept .0)))
+    (c .before .before .lay .ensures)
     ∙ ap (λ v. overlapped v (drop n (take m (drop from h))) ++ drop overlap v) (back-is (n + 120) 1080 (small o) y (b .kept .0)) in (
       ap (λ (v : Block). v .seed) e,
       cover-is (a .at) n h y l (z .0) (omega arith) (back-size (n + 120) 1080 (small o) y (b .kept .0)) from m (c .before .before .lay .last .0) refl (omega arith) f

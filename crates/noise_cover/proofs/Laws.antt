@@ -8,7 +8,7 @@ use lib.Seq.{getD-append-add, getD-drop, take-all, take-at}
 use lib.Ieee.{Float, nan, binary32, add}
 use Rattle.loops.specs.Front.{front, tab, length-tab}
 use Rattle.buffers.specs.Buffers.{copied, copied-all}
-use Rattle.noise_loss.specs.Cover.{overlapped}
+use Rattle.noise_cover.specs.Cover.{overlapped}
 
 -- what stands at k is not yet written
 pub front-later : (d : Float) (xs b out : List Float) (i k : ℕ) → b ≡ front out xs i → length out ≡ i → i ≤ k → getD b k d ≡ getD xs k d

@@ -1,10 +1,10 @@
--- `answer::answer_tail` meets its contract: nothing for nothing, three words for a cut record.
+-- `answer_head::answer_tail` meets its contract: nothing for nothing, three words for a cut record.
 use native.Mathlib.Omega.{arith}
 use borrow.Author.Needs.{needs}
 use Rattle.words.proofs.Laws.{put-held}
-use Rattle.answer.proofs.Answers.{tail-no-room, tail-none, tail-cut}
-use Rattle.answer.proofs.answer_tail.Statement.{statement}
-use Rattle.answer.proofs.answer_tail.Tie as tie
+use Rattle.answer_head.proofs.Heads.{tail-no-room, tail-none, tail-cut}
+use Rattle.answer_head.proofs.answer_tail.Statement.{statement}
+use Rattle.answer_head.proofs.answer_tail.Tie as tie
 
 returns : tie.Need-returns
 returns c =

@@ -1,10 +1,12 @@
 -- A noise block over the newest n samples of a channel. The history is not rolled.
 use mathlib.Core.Path.{_≡_, _∙_}
+use mathlib.Core.Bool.{Bool, _&&_}
 use mathlib.Core.List.{List, _++_}
-use Prim.Native.Nat.{ℕ, _+_, _-_, _≤_}
+use Prim.Native.Nat.{ℕ, _+_, _*_, _-_, _≤_}
 use native.Mathlib.Omega.{arith}
 use lib.ListN.{length, getD, take, drop, length-append, length-drop}
 use lib.Seq.{slice, length-slice, length-take-le}
+use lib.Dec.{leb, eqb}
 use lib.Ieee.{Float, nan, binary32, add}
 use Rattle.loops.specs.Front.{tab, length-tab}
 use Rattle.history.specs.History.{half, overlap, Tail}
@@ -34,3 +36,7 @@ module _ (n : ℕ) (block : List Float) (t : Tail) (low : overlap ≤ n) (high :
   pub length-covered-over : length (coveredTail n block t .over) ≡ overlap
   unfolding coveredTail
   length-covered-over = length-drop n block ∙ omega arith
+
+-- whether lay takes a tail of n samples and a block of m
+unfoldable pub layTakes : ℕ → ℕ → Bool
+layTakes n m = leb (2 * overlap) n && eqb m n

@@ -1,0 +1,2 @@
+-- The head of an answer.
+pub mod Head

@@ -1,0 +1,2 @@
+-- A noise block over a channel's newest samples.
+pub mod Cover
