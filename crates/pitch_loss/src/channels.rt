@@ -7,14 +7,15 @@ ghost use Rattle.history.specs.History.{whole, tails, withTails};
 ghost use Rattle.post_filter.specs.Limits.{filterFits};
 ghost use Rattle.state.specs.Refusal.{lagLeast, lagMost};
 ghost use Rattle.extrapolate.specs.Extrapolate.{order};
-ghost use Rattle.pitch_loss.specs.PitchLoss.{longestFrame, extra, firstTail, bothTails};
-use crate::frame::take_in;
+ghost use Rattle.take_in.specs.TakeIn.{longestFrame, extra};
+ghost use Rattle.pitch_loss.specs.PitchLoss.{firstTail, bothTails};
 use extrapolate::ORDER;
 use history::CHANNEL;
 use history::HALF;
 use history::SAMPLES;
 use history::WHOLE;
 use post_filter::Filter;
+use take_in::take_in;
 
 // The coefficients as an array.
 pub(crate) fn coefficients(lpc: &[f32]) -> [f32; 24]

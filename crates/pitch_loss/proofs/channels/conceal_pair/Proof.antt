@@ -40,7 +40,7 @@ part-extrapolate-pair-end-2 : tie.Need-part-extrapolate-pair-end-2
 part-extrapolate-pair-end-2 c = search needs
 
 extrapolate-pair-requires : tie.Need-extrapolate-pair-requires
-extrapolate-pair-requires c κs = search needs
+extrapolate-pair-requires c κs = tt
 
 sub-take-in : tie.Need-sub-take-in
 sub-take-in c = search needs
@@ -52,9 +52,7 @@ part-take-in-end : tie.Need-part-take-in-end
 part-take-in-end c = search needs
 
 take-in-requires : tie.Need-take-in-requires
-take-in-requires c κs =
-    let m = c .before .before .before .before .before .before .before .before .before .before .before .before .before .before .before in
-    (search needs, search needs, search needs, m .pre .1 .2)
+take-in-requires c κs = tt
 
 mul-take-in : tie.Need-mul-take-in
 mul-take-in c = search needs
@@ -69,22 +67,7 @@ part-take-in-end-2 : tie.Need-part-take-in-end-2
 part-take-in-end-2 c = search needs
 
 take-in-requires-2 : tie.Need-take-in-requires-2
-take-in-requires-2 c κs =
-    let z = c .before .before .before .before in
-    let x = z .before .before .before .before .before .before .before .extrapolate-pair in
-    let m = z .before .before .before .before .before .before .before .before .before .before .before .before .before .before .before .before in
-    let h : List Float = m .args .h .now in
-    let l : length h ≡ whole = m .pre .0 .0 in
-    let y : List Float = z .take-in .last .0 in
-    let s : length y ≡ half + overlap = z .take-in .kept .0 ∙ length-take-le (half + overlap) (drop half h) (omega (arith, length-drop half h)) in
-    let p : length (put half (half + overlap) y h) ≡ length h = length-put half (half + overlap) y h s (omega arith) in
-    let k : length (x .last .1 .0) ≡ length (m .args .e1 .now) = x .kept .1 .0 in (
-      length-take-le (half + overlap) (drop (channel + half) (put half (half + overlap) y h))
-          (omega (arith, length-drop (channel + half) (put half (half + overlap) y h))),
-      k ∙ m .pre .0 .2,
-      m .pre .0 .3,
-      m .pre .1 .2,
-    )
+take-in-requires-2 c κs = tt
 
 same-length : tie.Need-same-length
 same-length c =
@@ -113,13 +96,15 @@ returns c =
     let m = z .before .before .before .before .before .before .before .before .before in
     let a = m .args in
     let x = z .extrapolate-pair in
-    both-is (a .n) (a .lag) (a .first) (a .filter) (a .h .now) (m .pre .0 .0) (m .pre .0 .3) (m .pre .1 .0) (m .pre .1 .1) (a .e0 .now) (a .e1 .now)
+    both-is (a .n) (a .lag) (a .first) (a .filter) (a .h .now) (m .pre .0 .0) (m .pre .0 .3) (m .pre .1 .0) (m .pre .1 .1) (m .pre .1 .2) (a .e0 .now) (a .e1 .now)
     (x .last .0)
     (x .last .1 .0)
     (c .before .before .before .before .before .before .before .take-in .last .0)
     (c .before .before .take-in2 .last .0)
     (a .lpc0 .now)
     (a .lpc1 .now)
+    _
+    _
     _
     (m .pre .0 .1)
     (m .pre .0 .2)
