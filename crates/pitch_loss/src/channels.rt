@@ -17,6 +17,11 @@ use history::WHOLE;
 use post_filter::Filter;
 use take_in::take_in;
 
+// Where channel 1's newest samples begin, and where they end.
+const SECOND: usize = CHANNEL + HALF;
+
+const END: usize = CHANNEL + SAMPLES;
+
 // The coefficients as an array.
 pub(crate) fn coefficients(lpc: &[f32]) -> [f32; 24]
     requires { ⌜ length (now lpc) ≡ order ⌝ }
@@ -61,19 +66,17 @@ pub(crate) fn conceal_pair(
     requires { ⌜ (lagLeast ≤ lag) × (lag ≤ lagMost) × (filterFits filter ≡ true) ⌝ }
     ensures { λ _. ⌜ now (h .exit) ≡ withTails (now (h .entry)) (bothTails n lag first (now (lpc0 .entry)) (now (lpc1 .entry)) filter (tails (now (h .entry)))) ⌝ }
 {
-    let second = CHANNEL + HALF;
-    let end = CHANNEL + SAMPLES;
     let all = &h[..];
     extrapolate::extrapolate_pair(
         e0,
         e1,
         &all[HALF..SAMPLES],
-        &all[second..end],
+        &all[SECOND..END],
         lag,
         first,
         lpc0,
         lpc1,
     );
     take_in(&mut h[HALF..CHANNEL], n, e0, filter);
-    take_in(&mut h[second..WHOLE], n, e1, filter);
+    take_in(&mut h[SECOND..WHOLE], n, e1, filter);
 }

@@ -9,7 +9,7 @@ use Rattle.pitch_loss.proofs.frame_of.Statement.{statement}
 use Rattle.pitch_loss.proofs.frame_of.Tie as tie
 
 frame-size-requires : tie.Need-frame-size-requires
-frame-size-requires c κs = search needs
+frame-size-requires c κs = tt
 
 returns : tie.Need-returns
 returns c =

@@ -12,12 +12,6 @@ use Rattle.pitch_loss.proofs.Tails.{both-is}
 use Rattle.pitch_loss.proofs.channels.conceal_pair.Statement.{statement}
 use Rattle.pitch_loss.proofs.channels.conceal_pair.Tie as tie
 
-add-second : tie.Need-add-second
-add-second c = search needs
-
-add-end : tie.Need-add-end
-add-end c = search needs
-
 sub-extrapolate-pair : tie.Need-sub-extrapolate-pair
 sub-extrapolate-pair c = search needs
 
@@ -26,9 +20,6 @@ part-extrapolate-pair-start c = search needs
 
 part-extrapolate-pair-end : tie.Need-part-extrapolate-pair-end
 part-extrapolate-pair-end c = search needs
-
-mul-extrapolate-pair : tie.Need-mul-extrapolate-pair
-mul-extrapolate-pair c = search needs
 
 sub-extrapolate-pair-2 : tie.Need-sub-extrapolate-pair-2
 sub-extrapolate-pair-2 c = search needs
@@ -53,9 +44,6 @@ part-take-in-end c = search needs
 
 take-in-requires : tie.Need-take-in-requires
 take-in-requires c κs = tt
-
-mul-take-in : tie.Need-mul-take-in
-mul-take-in c = search needs
 
 sub-take-in-2 : tie.Need-sub-take-in-2
 sub-take-in-2 c = search needs
@@ -116,12 +104,9 @@ pub conceal-pair-spec : {M : Type 1} → statement M
 conceal-pair-spec =
     tie.close
     (tie.spec
-    add-second
-    add-end
     sub-extrapolate-pair
     part-extrapolate-pair-start
     part-extrapolate-pair-end
-    mul-extrapolate-pair
     sub-extrapolate-pair-2
     part-extrapolate-pair-start-2
     part-extrapolate-pair-end-2
@@ -130,7 +115,6 @@ conceal-pair-spec =
     part-take-in-start
     part-take-in-end
     take-in-requires
-    mul-take-in
     sub-take-in-2
     part-take-in-start-2
     part-take-in-end-2
