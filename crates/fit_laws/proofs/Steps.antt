@@ -26,7 +26,8 @@ use Rattle.fold.specs.Roll.{rolled}
 use Rattle.fold.specs.Fold.{foldAt, folded}
 use Rattle.pitch_fit.specs.Fit.{pitchFit}
 use Rattle.pitch_predictor.specs.Predictor.{fittedTo}
-use Rattle.pitch_loss.specs.PitchLoss.{extra, tailAfter, pitchTail, pitchTails}
+use Rattle.take_in.specs.TakeIn.{extra, tailAfter}
+use Rattle.pitch_loss.specs.PitchLoss.{pitchTail, pitchTails}
 use Rattle.noise_block.specs.Block.{windowed, noiseBlock}
 use Rattle.noise_energies.specs.Energies.{energyDrop, drops, droppedAt, lowerEnergies}
 use Rattle.noise_cover.specs.Cover.{overlapped, coveredTail}

@@ -17,7 +17,8 @@ use Rattle.prefilter.specs.Comb.{skips, preFiltered, preFilteredEnd}
 use Rattle.fold.specs.Roll.{movedBack, rolled, length-rolled}
 use Rattle.fold.specs.Fold.{folded, length-folded}
 use Rattle.extrapolate.specs.Extrapolate.{extrapolated, length-extrapolated}
-use Rattle.pitch_loss.specs.PitchLoss.{extra, tailAfter, pitchTail}
+use Rattle.take_in.specs.TakeIn.{extra, tailAfter}
+use Rattle.pitch_loss.specs.PitchLoss.{pitchTail}
 use Rattle.forward.specs.Forward.{combTurn, combFilter, forwardGain, postFiltered, framed, forwardTail}
 
 -- the filter changes the overlap alone

@@ -15,7 +15,7 @@ use Rattle.post_filter.specs.declared.Filter.{Filter}
 use Rattle.fold.specs.Roll.{movedBack}
 use Rattle.fold.specs.Fold.{folded}
 use Rattle.extrapolate.specs.Extrapolate.{extrapolated}
-use Rattle.pitch_loss.specs.PitchLoss.{extra}
+use Rattle.take_in.specs.TakeIn.{extra}
 
 -- y[i] += g0 × y[a] + g1 × (y[a - 1] + y[a + 1]) + g2 × (y[a - 2] + y[a + 2]), one period t back, in place: later samples read filtered ones
 unfoldable pub combTurn : ℕ → Float → Float → Float → List Float → ℕ → List Float

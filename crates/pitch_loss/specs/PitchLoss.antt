@@ -3,33 +3,16 @@ use Prim.Native.Nat.{ℕ, _+_}
 use mathlib.Core.Bool.{Bool, cond, _&&_}
 use mathlib.Core.List.{List}
 use lib.ListN.{take, drop}
-use lib.Seq.{slice}
 use lib.Dec.{eqb, leb}
 use lib.Ieee.{Float}
-use Rattle.history.specs.History.{overlap, whole, Tail, Tails}
-use Rattle.celt_window.specs.Window.{window}
+use Rattle.history.specs.History.{whole, Tail, Tails}
 use Rattle.post_filter.specs.declared.Filter.{Filter}
 use Rattle.post_filter.specs.Limits.{filterFits}
-use Rattle.prefilter.specs.Comb.{preFiltered}
 use Rattle.settings.specs.declared.Settings.{Settings}
 use Rattle.settings.specs.Settings.{checkSettings}
 use Rattle.state.specs.Refusal.{lagLeast, lagMost}
 use Rattle.extrapolate.specs.Extrapolate.{order, extrapolated}
-use Rattle.fold.specs.Roll.{rolled}
-use Rattle.fold.specs.Fold.{folded}
-
-abbrev pub longestFrame : ℕ
-longestFrame = 960
-
--- what is extrapolated beyond a frame: twice the overlap
-abbrev pub extra : ℕ
-extra = 240
-
--- a tail after the first n samples of e came in: the next 120 are folded into the overlap, and that is pre-filtered
-unfoldable pub tailAfter : ℕ → List Float → Filter → Tail → Tail
-tailAfter n e f t =
-    let new = rolled (take n e) (t .new) in
-    record { new = new; over = preFiltered f new (folded window (slice n (n + overlap) e)) }
+use Rattle.take_in.specs.TakeIn.{extra, tailAfter}
 
 -- the pitch step of one channel: a frame of n, the tail, the lag, whether it is the first loss, 24 coefficients, the filter
 unfoldable pub pitchTail : ℕ → Tail → ℕ → Bool → List Float → Filter → Tail

@@ -7,14 +7,20 @@ ghost use Rattle.history.specs.History.{whole, tails, withTails};
 ghost use Rattle.post_filter.specs.Limits.{filterFits};
 ghost use Rattle.state.specs.Refusal.{lagLeast, lagMost};
 ghost use Rattle.extrapolate.specs.Extrapolate.{order};
-ghost use Rattle.pitch_loss.specs.PitchLoss.{longestFrame, extra, firstTail, bothTails};
-use crate::frame::take_in;
+ghost use Rattle.take_in.specs.TakeIn.{longestFrame, extra};
+ghost use Rattle.pitch_loss.specs.PitchLoss.{firstTail, bothTails};
 use extrapolate::ORDER;
 use history::CHANNEL;
 use history::HALF;
 use history::SAMPLES;
 use history::WHOLE;
 use post_filter::Filter;
+use take_in::take_in;
+
+// Where channel 1's newest samples begin, and where they end.
+const SECOND: usize = CHANNEL + HALF;
+
+const END: usize = CHANNEL + SAMPLES;
 
 // The coefficients as an array.
 pub(crate) fn coefficients(lpc: &[f32]) -> [f32; 24]
@@ -60,19 +66,17 @@ pub(crate) fn conceal_pair(
     requires { ⌜ (lagLeast ≤ lag) × (lag ≤ lagMost) × (filterFits filter ≡ true) ⌝ }
     ensures { λ _. ⌜ now (h .exit) ≡ withTails (now (h .entry)) (bothTails n lag first (now (lpc0 .entry)) (now (lpc1 .entry)) filter (tails (now (h .entry)))) ⌝ }
 {
-    let second = CHANNEL + HALF;
-    let end = CHANNEL + SAMPLES;
     let all = &h[..];
     extrapolate::extrapolate_pair(
         e0,
         e1,
         &all[HALF..SAMPLES],
-        &all[second..end],
+        &all[SECOND..END],
         lag,
         first,
         lpc0,
         lpc1,
     );
     take_in(&mut h[HALF..CHANNEL], n, e0, filter);
-    take_in(&mut h[second..WHOLE], n, e1, filter);
+    take_in(&mut h[SECOND..WHOLE], n, e1, filter);
 }

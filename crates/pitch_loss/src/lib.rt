@@ -8,7 +8,8 @@ ghost use Rattle.history.specs.History.{whole, tails, withTails};
 ghost use Rattle.post_filter.specs.Limits.{filterFits};
 ghost use Rattle.settings.specs.Settings.{frame, stereo, checkSettings};
 ghost use Rattle.state.specs.Refusal.{lagLeast, lagMost};
-ghost use Rattle.pitch_loss.specs.PitchLoss.{longestFrame, pitchTails, pitchTakes};
+ghost use Rattle.take_in.specs.TakeIn.{longestFrame};
+ghost use Rattle.pitch_loss.specs.PitchLoss.{pitchTails, pitchTakes};
 use extrapolate::LONGEST;
 use extrapolate::ORDER;
 use history::OVERLAP;
@@ -22,7 +23,6 @@ use state::checks::LAG_LEAST;
 use state::checks::LAG_MOST;
 
 mod channels;
-mod frame;
 
 // Both channels' coefficients.
 const BOTH: usize = 2 * ORDER;

@@ -4,12 +4,12 @@ use native.Mathlib.Omega.{arith}
 use borrow.Author.Needs.{needs}
 use Rattle.settings.specs.Settings.{frame}
 use Rattle.settings.proofs.Passed.{frame-is, frame-high}
-use Rattle.pitch_loss.specs.PitchLoss.{longestFrame}
+use Rattle.take_in.specs.TakeIn.{longestFrame}
 use Rattle.pitch_loss.proofs.frame_of.Statement.{statement}
 use Rattle.pitch_loss.proofs.frame_of.Tie as tie
 
 frame-size-requires : tie.Need-frame-size-requires
-frame-size-requires c κs = search needs
+frame-size-requires c κs = tt
 
 returns : tie.Need-returns
 returns c =

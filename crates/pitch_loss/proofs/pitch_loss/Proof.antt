@@ -10,7 +10,7 @@ use Rattle.pitch_loss.proofs.pitch_loss.Statement.{statement}
 use Rattle.pitch_loss.proofs.pitch_loss.Tie as tie
 
 takes-requires : tie.Need-takes-requires
-takes-requires c κs = search needs
+takes-requires c κs = tt
 
 taken : (c : tie.Else1) → let a = c .before .before .before .args in pitchTakes (a .k) (length (a .history .now)) (a .lag) (a .filter) ≡ true
 taken c = sym (c .before .takes .ensures) ∙ not-false _ (c .if1 .left)

@@ -11,7 +11,7 @@ use Rattle.pitch_loss.proofs.takes.Statement.{statement}
 use Rattle.pitch_loss.proofs.takes.Tie as tie
 
 settings-pass-requires : tie.Need-settings-pass-requires
-settings-pass-requires c κs = search needs
+settings-pass-requires c κs = tt
 
 passing : (c : tie.Else1) → eqb (checkSettings (c .before .before .args .k)) 0 ≡ true
 passing c = sym (c .before .settings-pass .ensures) ∙ not-false _ (c .if1 .left)
@@ -40,7 +40,7 @@ returns-4 c =
     simp (passing (c .before .before .before), eq-eqb (a .size) whole (search needs), le-leb lagLeast (a .lag) (search needs), lt-leb (a .lag) lagMost (search needs))
 
 filter-fits-requires : tie.Need-filter-fits-requires
-filter-fits-requires c κs = search needs
+filter-fits-requires c κs = tt
 
 returns-5 : tie.Need-returns-5
 unfolding pitchTakes

@@ -8,7 +8,7 @@ slice-aggregate-copy : tie.Need-slice-aggregate-copy
 slice-aggregate-copy c = search needs
 
 copy-requires : tie.Need-copy-requires
-copy-requires c κs = search needs
+copy-requires c κs = tt
 
 returns : tie.Need-returns
 returns c = c .before .copy .ensures ∙ copied-all _ _ (c .before .before .before .before .pre)

@@ -13,7 +13,7 @@ part-extrapolate-end : tie.Need-part-extrapolate-end
 part-extrapolate-end c = search needs
 
 extrapolate-requires : tie.Need-extrapolate-requires
-extrapolate-requires c κs = search needs
+extrapolate-requires c κs = tt
 
 sub-take-in : tie.Need-sub-take-in
 sub-take-in c = search needs
@@ -25,7 +25,7 @@ part-take-in-end : tie.Need-part-take-in-end
 part-take-in-end c = search needs
 
 take-in-requires : tie.Need-take-in-requires
-take-in-requires c κs = (search needs, search needs, search needs, c .before .before .before .before .before .before .before .before .before .before .pre .1 .2)
+take-in-requires c κs = tt
 
 same-length : tie.Need-same-length
 same-length c = search needs
@@ -38,8 +38,9 @@ returns c =
     let m = c .before .before .before .before .before .before .before .before .before .before .before .before .before in
     let a = m .args in
     let x = c .before .before .before .before .before .before .before .extrapolate in
-    one-is (a .n) (a .lag) (a .first) (a .filter) (a .h .now) (m .pre .0 .0) (m .pre .0 .2) (m .pre .1 .0) (m .pre .1 .1) (a .e .now) (x .last .0) _
+    one-is (a .n) (a .lag) (a .first) (a .filter) (a .h .now) (m .pre .0 .0) (m .pre .0 .2) (m .pre .1 .0) (m .pre .1 .1) (m .pre .1 .2) (a .e .now) (x .last .0) _
     (a .lpc .now)
+    _
     _
     (m .pre .0 .1)
     (x .ensures)

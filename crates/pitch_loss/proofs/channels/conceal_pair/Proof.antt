@@ -12,12 +12,6 @@ use Rattle.pitch_loss.proofs.Tails.{both-is}
 use Rattle.pitch_loss.proofs.channels.conceal_pair.Statement.{statement}
 use Rattle.pitch_loss.proofs.channels.conceal_pair.Tie as tie
 
-add-second : tie.Need-add-second
-add-second c = search needs
-
-add-end : tie.Need-add-end
-add-end c = search needs
-
 sub-extrapolate-pair : tie.Need-sub-extrapolate-pair
 sub-extrapolate-pair c = search needs
 
@@ -26,9 +20,6 @@ part-extrapolate-pair-start c = search needs
 
 part-extrapolate-pair-end : tie.Need-part-extrapolate-pair-end
 part-extrapolate-pair-end c = search needs
-
-mul-extrapolate-pair : tie.Need-mul-extrapolate-pair
-mul-extrapolate-pair c = search needs
 
 sub-extrapolate-pair-2 : tie.Need-sub-extrapolate-pair-2
 sub-extrapolate-pair-2 c = search needs
@@ -40,7 +31,7 @@ part-extrapolate-pair-end-2 : tie.Need-part-extrapolate-pair-end-2
 part-extrapolate-pair-end-2 c = search needs
 
 extrapolate-pair-requires : tie.Need-extrapolate-pair-requires
-extrapolate-pair-requires c κs = search needs
+extrapolate-pair-requires c κs = tt
 
 sub-take-in : tie.Need-sub-take-in
 sub-take-in c = search needs
@@ -52,12 +43,7 @@ part-take-in-end : tie.Need-part-take-in-end
 part-take-in-end c = search needs
 
 take-in-requires : tie.Need-take-in-requires
-take-in-requires c κs =
-    let m = c .before .before .before .before .before .before .before .before .before .before .before .before .before .before .before in
-    (search needs, search needs, search needs, m .pre .1 .2)
-
-mul-take-in : tie.Need-mul-take-in
-mul-take-in c = search needs
+take-in-requires c κs = tt
 
 sub-take-in-2 : tie.Need-sub-take-in-2
 sub-take-in-2 c = search needs
@@ -69,22 +55,7 @@ part-take-in-end-2 : tie.Need-part-take-in-end-2
 part-take-in-end-2 c = search needs
 
 take-in-requires-2 : tie.Need-take-in-requires-2
-take-in-requires-2 c κs =
-    let z = c .before .before .before .before in
-    let x = z .before .before .before .before .before .before .before .extrapolate-pair in
-    let m = z .before .before .before .before .before .before .before .before .before .before .before .before .before .before .before .before in
-    let h : List Float = m .args .h .now in
-    let l : length h ≡ whole = m .pre .0 .0 in
-    let y : List Float = z .take-in .last .0 in
-    let s : length y ≡ half + overlap = z .take-in .kept .0 ∙ length-take-le (half + overlap) (drop half h) (omega (arith, length-drop half h)) in
-    let p : length (put half (half + overlap) y h) ≡ length h = length-put half (half + overlap) y h s (omega arith) in
-    let k : length (x .last .1 .0) ≡ length (m .args .e1 .now) = x .kept .1 .0 in (
-      length-take-le (half + overlap) (drop (channel + half) (put half (half + overlap) y h))
-          (omega (arith, length-drop (channel + half) (put half (half + overlap) y h))),
-      k ∙ m .pre .0 .2,
-      m .pre .0 .3,
-      m .pre .1 .2,
-    )
+take-in-requires-2 c κs = tt
 
 same-length : tie.Need-same-length
 same-length c =
@@ -113,13 +84,15 @@ returns c =
     let m = z .before .before .before .before .before .before .before .before .before in
     let a = m .args in
     let x = z .extrapolate-pair in
-    both-is (a .n) (a .lag) (a .first) (a .filter) (a .h .now) (m .pre .0 .0) (m .pre .0 .3) (m .pre .1 .0) (m .pre .1 .1) (a .e0 .now) (a .e1 .now)
+    both-is (a .n) (a .lag) (a .first) (a .filter) (a .h .now) (m .pre .0 .0) (m .pre .0 .3) (m .pre .1 .0) (m .pre .1 .1) (m .pre .1 .2) (a .e0 .now) (a .e1 .now)
     (x .last .0)
     (x .last .1 .0)
     (c .before .before .before .before .before .before .before .take-in .last .0)
     (c .before .before .take-in2 .last .0)
     (a .lpc0 .now)
     (a .lpc1 .now)
+    _
+    _
     _
     (m .pre .0 .1)
     (m .pre .0 .2)
@@ -131,12 +104,9 @@ pub conceal-pair-spec : {M : Type 1} → statement M
 conceal-pair-spec =
     tie.close
     (tie.spec
-    add-second
-    add-end
     sub-extrapolate-pair
     part-extrapolate-pair-start
     part-extrapolate-pair-end
-    mul-extrapolate-pair
     sub-extrapolate-pair-2
     part-extrapolate-pair-start-2
     part-extrapolate-pair-end-2
@@ -145,7 +115,6 @@ conceal-pair-spec =
     part-take-in-start
     part-take-in-end
     take-in-requires
-    mul-take-in
     sub-take-in-2
     part-take-in-start-2
     part-take-in-end-2

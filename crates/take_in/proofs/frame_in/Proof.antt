@@ -8,9 +8,9 @@ use lib.Ieee.{Float}
 use borrow.Author.Needs.{needs}
 use Rattle.history.specs.History.{half, overlap}
 use Rattle.history.proofs.Parts.{slice-take}
-use Rattle.pitch_loss.proofs.Tails.{after-is}
-use Rattle.pitch_loss.proofs.frame.take_in.Statement.{statement}
-use Rattle.pitch_loss.proofs.frame.take_in.Tie as tie
+use Rattle.take_in.proofs.Frame.{after-is}
+use Rattle.take_in.proofs.frame_in.Statement.{statement}
+use Rattle.take_in.proofs.frame_in.Tie as tie
 
 add-end : tie.Need-add-end
 add-end c = search needs
@@ -81,8 +81,8 @@ returns c =
     _
     (c .before .before .prefilter .ensures)
 
-pub take-in-spec : {M : Type 1} → statement M
-take-in-spec =
+pub frame-in-spec : {M : Type 1} → statement M
+frame-in-spec =
     tie.close
     (tie.spec
     add-end

@@ -1,0 +1,2 @@
+-- A tail after a frame came in.
+pub mod TakeIn
