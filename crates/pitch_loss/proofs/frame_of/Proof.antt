@@ -1,7 +1,6 @@
 use mathlib.Core.Path.{_≡_}
 use Prim.Native.Nat.{_≤_}
 use native.Mathlib.Omega.{arith}
-use borrow.Author.Needs.{needs}
 use Rattle.settings.specs.Settings.{frame}
 use Rattle.settings.proofs.Passed.{frame-is, frame-high}
 use Rattle.take_in.specs.TakeIn.{longestFrame}
