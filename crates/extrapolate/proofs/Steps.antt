@@ -1,24 +1,23 @@
 -- What the steps make together, over plain variables.
-use mathlib.Core.Path.{_≡_, ap, _∙_, sym}
-use mathlib.Core.Bool.{Bool, true, false, _&&_}
+use mathlib.Core.Path.{_≡_, ap, _∙_}
+use mathlib.Core.Bool.{Bool, true, _&&_}
 use mathlib.Core.List.{List, map}
 use Prim.Native.Nat.{ℕ, _≤_, _<_}
 use native.Mathlib.Omega.{arith}
-use lib.ListN.{length, replicate}
+use lib.ListN.{length}
 use lib.Dec.{eqb, leb}
-use lib.Ieee.{Float, lt}
+use lib.Ieee.{Float}
 use borrow.Author.Tests.{eqb-true, leb-true, eq-eqb, le-leb}
 use Rattle.loops.specs.Logic.{and-true}
-use Rattle.loops.specs.Pick.{pick-true, pick-false}
 use Rattle.loops.specs.Reply.{reply, replyIf, reply-lent}
-use Rattle.buffers.specs.Buffers.{zero32, times, energy}
+use Rattle.buffers.specs.Buffers.{zero32, times}
 use Rattle.history.specs.History.{half}
 use Rattle.plc_fir.specs.Fir.{celtFir}
 use Rattle.plc_iir.specs.Iir.{celtIir, iirTakes}
 use Rattle.plc_iir_pair.specs.Pair.{channels, iirPairTakes}
 use Rattle.excitation.specs.Copy.{copiedEnergy}
 use Rattle.excitation.specs.Cycle.{cycle, pitchCycle, cycleTakes}
-use Rattle.extrapolate.specs.Guard.{muted, backScale, guardedAt, guarded}
+use Rattle.energy_guard.specs.Guard.{guarded}
 use Rattle.extrapolate.specs.Extrapolate.{longest, recent, excitation, fade, fadedCycle, length-fadedCycle, extrapolated, extrapolateTakes, extrapolatePairTakes}
 
 -- what an accepted call may go by
@@ -102,27 +101,3 @@ module _ (m : ℕ) (new0 new1 lpc0 lpc1 mem0 mem1 x0 x1 y0 y1 z0 z1 : List Float
       let a0 = guarded-is m new0 lpc0 mem0 x0 y0 z0 lag first s0 p0 q0 g0 (ap (λ w. w .first) r) in
       let a1 = guarded-is n new1 lpc1 mem1 x1 y1 z1 lag first s1 p1 q1 g1 (ap (λ w. w .second) r) in
       λ i. channels (a0 i) (a1 i)
-
--- the guard's three ways, by its two tests
-module _ (s1 s2 : Float) (e y : List Float) (p : s2 ≡ energy zero32 e) where
-  pub guard-zeroed : muted s1 s2 ≡ true → y ≡ replicate (length e) zero32 → (true ≡ muted s1 (energy zero32 e)) × (y ≡ guarded s1 e)
-  unfolding guarded guardedAt
-  guard-zeroed t q =
-      let m : muted s1 (energy zero32 e) ≡ true = ap (muted s1) (sym p) ∙ t in
-      (sym m, q ∙ sym (pick-true _ _ _ m))
-
-  kept : muted s1 s2 ≡ false → muted s1 (energy zero32 e) ≡ false
-  kept t = ap (muted s1) (sym p) ∙ t
-
-  pub guard-scaled : muted s1 s2 ≡ false → lt s1 s2 ≡ true → y ≡ map (times (backScale s1 s2)) e
-      → (false ≡ muted s1 (energy zero32 e)) × (y ≡ guarded s1 e)
-  unfolding guarded guardedAt
-  guard-scaled t u q = (
-    sym (kept t),
-    q ∙ ap (λ z. map (times (backScale s1 z)) e) p ∙ sym (pick-false _ _ _ (kept t) ∙ pick-true _ _ _ (ap (lt s1) (sym p) ∙ u)),
-  )
-
-  pub guard-kept : muted s1 s2 ≡ false → lt s1 s2 ≡ false → y ≡ e
-      → (false ≡ muted s1 (energy zero32 e)) × (y ≡ guarded s1 e)
-  unfolding guarded guardedAt
-  guard-kept t u q = (sym (kept t), q ∙ sym (pick-false _ _ _ (kept t) ∙ pick-false _ _ _ (ap (lt s1) (sym p) ∙ u)))

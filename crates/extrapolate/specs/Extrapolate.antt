@@ -13,7 +13,7 @@ use Rattle.plc_fir.specs.Fir.{celtFir}
 use Rattle.plc_iir.specs.Iir.{celtIir, length-celtIir}
 use Rattle.excitation.specs.Copy.{copiedEnergy}
 use Rattle.excitation.specs.Cycle.{repeatedCycle, length-repeatedCycle, cycleTakes}
-use Rattle.extrapolate.specs.Guard.{guarded, length-guarded}
+use Rattle.energy_guard.specs.Guard.{guarded, length-guarded}
 pub use Rattle.plc_pad.specs.Pad.{order}
 
 -- the newest 24, the most recent first

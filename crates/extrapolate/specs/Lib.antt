@@ -1,3 +1,2 @@
 -- How the newest samples are continued, in the Rust's order: repeated cycle, fade, all-pole filter, guard.
-pub mod Guard
 pub mod Extrapolate

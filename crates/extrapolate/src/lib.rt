@@ -8,9 +8,8 @@ ghost use Rattle.plc_fir.specs.Fir.{celtFir};
 ghost use Rattle.plc_iir_pair.specs.Pair.{channels};
 ghost use Rattle.excitation.specs.Copy.{copiedEnergy};
 ghost use Rattle.extrapolate.specs.Extrapolate.{fade, recent, fadedCycle, extrapolated, extrapolateTakes, extrapolatePairTakes};
+use energy_guard::energy_guard;
 use history::HALF;
-
-mod guard;
 
 // How many coefficients a predictor has.
 pub const ORDER: usize = plc_pad::ORDER;
@@ -92,7 +91,7 @@ pub fn extrapolate(
     let mem = most_recent(new);
     let s1 = faded_cycle(e, new, lag, first, lpc, &mem);
     plc_iir::celt_iir_inplace(e, lpc, &mem);
-    guard::energy_guard(e, s1);
+    energy_guard(e, s1);
     Extrapolated { taken: true }
 }
 
@@ -134,7 +133,7 @@ pub fn extrapolate_pair(
     let s0 = faded_cycle(e0, new0, lag, first, lpc0, &mem0);
     let s1 = faded_cycle(e1, new1, lag, first, lpc1, &mem1);
     plc_iir_pair::celt_iir_pair(e0, e1, lpc0, lpc1, &mem0, &mem1);
-    guard::energy_guard(e0, s0);
-    guard::energy_guard(e1, s1);
+    energy_guard(e0, s0);
+    energy_guard(e1, s1);
     Extrapolated { taken: true }
 }

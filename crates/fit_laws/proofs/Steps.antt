@@ -20,7 +20,7 @@ use Rattle.prefilter.specs.Comb.{combAt, combFilterTo, tapGain, skips, preFilte
 use Rattle.plc_lpc.specs.Lpc.{Lpc, crossed, reflection, lpcWith, lpcTurn, lpcTo, celtLpc}
 use Rattle.plc_iir.specs.Iir.{iirAt, iirTo, celtIir}
 use Rattle.excitation.specs.Cycle.{repeatedCycle}
-use Rattle.extrapolate.specs.Guard.{muted, backScale, guardedAt, guarded}
+use Rattle.energy_guard.specs.Guard.{muted, backScale, guardedAt, guarded}
 use Rattle.extrapolate.specs.Extrapolate.{order, recent, excitation, fade, fadedCycle, extrapolated}
 use Rattle.fold.specs.Roll.{rolled}
 use Rattle.fold.specs.Fold.{foldAt, folded}

@@ -9,7 +9,7 @@ use Rattle.extrapolate.proofs.extrapolate.Statement.{statement}
 use Rattle.extrapolate.proofs.extrapolate.Tie as tie
 
 takes-requires : tie.Need-takes-requires
-takes-requires c κs = search needs
+takes-requires c κs = tt
 
 -- what an accepted call may go by
 accepted : (c : tie.Else1) → let a = c .before .before .before .before .args in Fits (length (a .e .now)) (length (a .new .now)) (a .lag)
@@ -25,10 +25,10 @@ faded-cycle-requires : tie.Need-faded-cycle-requires
 faded-cycle-requires c κs = let f = accepted (c .before .before .before) in (f .whole, f .lag-low, f .lag-high)
 
 celt-iir-inplace-requires : tie.Need-celt-iir-inplace-requires
-celt-iir-inplace-requires c κs = search needs
+celt-iir-inplace-requires c κs = tt
 
 energy-guard-requires : tie.Need-energy-guard-requires
-energy-guard-requires c κs = search needs
+energy-guard-requires c κs = tt
 
 same-length : tie.Need-same-length
 same-length c = search needs

@@ -11,7 +11,7 @@ use Rattle.extrapolate.proofs.extrapolate_pair.Statement.{statement}
 use Rattle.extrapolate.proofs.extrapolate_pair.Tie as tie
 
 pair-takes-requires : tie.Need-pair-takes-requires
-pair-takes-requires c κs = search needs
+pair-takes-requires c κs = tt
 
 taken : (c : tie.Else1)
     → let a = c .before .before .before .before .before .before .args in
@@ -40,10 +40,10 @@ faded-cycle-requires-2 : tie.Need-faded-cycle-requires-2
 faded-cycle-requires-2 c κs = let f = accepted (c .before .before .before .before .before .before .before .before .before) .1 in (f .whole, f .lag-low, f .lag-high)
 
 celt-iir-pair-requires : tie.Need-celt-iir-pair-requires
-celt-iir-pair-requires c κs = search needs
+celt-iir-pair-requires c κs = tt
 
 energy-guard-requires : tie.Need-energy-guard-requires
-energy-guard-requires c κs = search needs
+energy-guard-requires c κs = tt
 
 energy-guard-requires-2 : tie.Need-energy-guard-requires-2
 energy-guard-requires-2 c κs = search needs

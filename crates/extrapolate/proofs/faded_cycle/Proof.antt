@@ -5,13 +5,13 @@ use Rattle.extrapolate.proofs.faded_cycle.Statement.{statement}
 use Rattle.extrapolate.proofs.faded_cycle.Tie as tie
 
 repeat-cycle-requires : tie.Need-repeat-cycle-requires
-repeat-cycle-requires c κs = search needs
+repeat-cycle-requires c κs = tt
 
 fade-of-requires : tie.Need-fade-of-requires
-fade-of-requires c κs = search needs
+fade-of-requires c κs = tt
 
 scale-requires : tie.Need-scale-requires
-scale-requires c κs = search needs
+scale-requires c κs = tt
 
 same-length : tie.Need-same-length
 same-length c = search needs

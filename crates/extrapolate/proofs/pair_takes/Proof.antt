@@ -14,7 +14,7 @@ unfolding extrapolatePairTakes
 returns-2 c = let a = c .before .before .args in simp (eq-eqb (a .m0) (a .m1) (search needs), ne-eqb (a .n0) (a .n1) (c .if2 .taken))
 
 takes-requires : tie.Need-takes-requires
-takes-requires c κs = search needs
+takes-requires c κs = tt
 
 returns-3 : tie.Need-returns-3
 unfolding extrapolatePairTakes

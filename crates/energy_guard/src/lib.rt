@@ -1,15 +1,15 @@
 // The energy guard: a synthesis that explodes is zeroed, one that merely grew is scaled back.
 ghost use mathlib.Core.Path.{_≡_};
 ghost use Rattle.buffers.specs.Buffers.{zero32, energy};
-ghost use Rattle.extrapolate.specs.Guard.{muted, guarded};
+ghost use Rattle.energy_guard.specs.Guard.{muted, guarded};
 
 // Whether the samples were zeroed.
-pub(crate) struct Guarded {
+pub struct Guarded {
     pub muted: bool,
 }
 
 // s1 is the energy of the history that e stands for. A NaN energy is zeroed too.
-pub(crate) fn energy_guard(e: &mut [f32], s1: f32) -> Guarded
+pub fn energy_guard(e: &mut [f32], s1: f32) -> Guarded
     ensures { λ r. ⌜ (r .muted ≡ muted s1 (energy zero32 (now (e .entry)))) × (now (e .exit) ≡ guarded s1 (now (e .entry))) ⌝ }
 {
     let s2 = buffers::energy(e, 0.0);

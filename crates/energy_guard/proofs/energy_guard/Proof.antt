@@ -4,19 +4,19 @@ use mathlib.Core.List.{map}
 use lib.Ieee.{Float}
 use borrow.Author.Needs.{needs}
 use Rattle.buffers.specs.Buffers.{times}
-use Rattle.extrapolate.specs.Guard.{exceeds, muted, backScale}
-use Rattle.extrapolate.proofs.Steps.{guard-zeroed, guard-scaled, guard-kept}
-use Rattle.extrapolate.proofs.guard.energy_guard.Statement.{statement}
-use Rattle.extrapolate.proofs.guard.energy_guard.Tie as tie
+use Rattle.energy_guard.specs.Guard.{exceeds, muted, backScale}
+use Rattle.energy_guard.proofs.Ways.{guard-zeroed, guard-scaled, guard-kept}
+use Rattle.energy_guard.proofs.energy_guard.Statement.{statement}
+use Rattle.energy_guard.proofs.energy_guard.Tie as tie
 
 energy-requires : tie.Need-energy-requires
-energy-requires c κs = search needs
+energy-requires c κs = tt
 
 sqrt-f32-requires : tie.Need-sqrt-f32-requires
-sqrt-f32-requires c κs = search needs
+sqrt-f32-requires c κs = tt
 
 scale-requires : tie.Need-scale-requires
-scale-requires c κs = search needs
+scale-requires c κs = tt
 
 same-length : tie.Need-same-length
 same-length c = search needs
@@ -42,7 +42,7 @@ returns-2 c =
     guard-kept (a .s1) (c .before .before .energy .result) (a .e .now) _ (c .before .before .energy .ensures) (ap not (c .before .if1 .taken)) (c .if2 .left) refl
 
 fill-requires : tie.Need-fill-requires
-fill-requires c κs = search needs
+fill-requires c κs = tt
 
 same-length-3 : tie.Need-same-length-3
 same-length-3 c = search needs

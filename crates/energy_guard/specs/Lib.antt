@@ -1,0 +1,2 @@
+-- The guard on the energy of a synthesis.
+pub mod Guard
