@@ -10,7 +10,7 @@ use lib.Ieee.{Float, nan, inf, fin, binary32, binary64, up, down, minus, fits, o
 use lib.Ieee.Fits.{add-fits, cond-fits}
 use lib.Ieee.Bits.{ofBits-fits}
 use Rattle.loops.specs.Pick.{pick-true, pick-false}
-use Rattle.float_bits.specs.Extremes.{minOf}
+use Rattle.float_extremes.specs.Extremes.{minOf}
 use Rattle.float_narrow.specs.Narrow.{narrow}
 use Rattle.band_gain.specs.Gain.{GainRange, steps, power, series, gainAt, bandGain}
 

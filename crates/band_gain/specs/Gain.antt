@@ -4,7 +4,7 @@ use mathlib.Core.Bool.{Bool, true, false, cond}
 use lib.Dec.{eqb}
 use lib.ListN.{getD}
 use lib.Ieee.{Float, nan, inf, fin, binary32, binary64, up, down, minus, ofInt, ofBits, neg, add, sub, mul, div, le}
-use Rattle.float_bits.specs.Extremes.{minOf}
+use Rattle.float_extremes.specs.Extremes.{minOf}
 use Rattle.float_narrow.specs.Narrow.{narrow}
 use Rattle.band_gain.specs.Powers.{powerBits}
 

@@ -1,7 +1,7 @@
 -- The marked gains.
 use mathlib.Core.Path.{_≡_, refl}
 use lib.Ieee.{nan, binary32, ofBits, neg, add, sub, mul, div, le, lt, eq, isNan, ofInt}
-use Rattle.float_bits.specs.Extremes.{minOf}
+use Rattle.float_extremes.specs.Extremes.{minOf}
 use Rattle.float_narrow.specs.Narrow.{narrow}
 use Rattle.band_gain.specs.Powers.{powerBits}
 use Rattle.band_gain.specs.Gain.{floorFrom, steps, power, series, gainAt, bandGain, gainOf}

@@ -69,7 +69,7 @@ fn gain_at(x: f32, q: u64) -> f32
 pub fn band_gain(energy: f32, mean: f32) -> f32
     ensures { λ r. ⌜ r ≡ gainOf (add binary32 energy mean) ⌝ }
 {
-    let x = float_bits::extremes::min_f32(energy + mean, 32.0);
+    let x = float_extremes::min_f32(energy + mean, 32.0);
     if x <= -150.0 {
         return 0.0;
     }

@@ -1,6 +1,5 @@
 // Ops 101 to 108: the float helpers.
 use crate::streams;
-use float_bits::extremes;
 use float_bits::formats;
 use float_bits::words::f32_from_word;
 use float_bits::words::noise_value;
@@ -29,8 +28,8 @@ fn double(low: u32, high: u32) -> f64 {
 
 fn answer_two(op: u32, x: u32, y: u32) -> bool {
     match op {
-        101 => streams::write_float(extremes::min_f32(f32_from_word(x), f32_from_word(y))),
-        102 => streams::write_float(extremes::max_f32(f32_from_word(x), f32_from_word(y))),
+        101 => streams::write_float(float_extremes::min_f32(f32_from_word(x), f32_from_word(y))),
+        102 => streams::write_float(float_extremes::max_f32(f32_from_word(x), f32_from_word(y))),
         104 => streams::write_float(float_narrow::f64_to_f32(double(x, y))),
         108 => streams::write_word(wrapping_mul_u32(x, y)),
         _ => false,

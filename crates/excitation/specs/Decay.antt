@@ -5,7 +5,7 @@ use mathlib.Core.List.{List}
 use lib.Dec.{ltb}
 use lib.Ieee.{Float, binary32, div}
 use Rattle.loops.specs.Sum.{sumTo}
-use Rattle.float_bits.specs.Extremes.{minOf}
+use Rattle.float_extremes.specs.Extremes.{minOf}
 use Rattle.float_root.specs.Root.{sqrtOf}
 use Rattle.buffers.specs.Buffers.{one32, squareAt}
 use Rattle.history.specs.History.{half}

@@ -31,6 +31,6 @@ pub(crate) fn pitch_decay(exc: &[f32], lag: usize) -> f32
         e1 = e1 + a * a;
         e2 = e2 + b * b;
     }
-    let low = float_bits::extremes::min_f32(e1, e2);
+    let low = float_extremes::min_f32(e1, e2);
     float_root::sqrt_f32(low / e2)
 }

@@ -1,5 +1,4 @@
 -- What the float helpers compute, over the kit's account of IEEE 754.
-pub mod Extremes
 pub mod Words
 pub mod Noise
 pub mod Steps

@@ -1,4 +1,3 @@
 // Total helpers over the bits of floats and 32-bit words: what Rust has as methods of its numbers.
-pub mod extremes;
 pub mod formats;
 pub mod words;

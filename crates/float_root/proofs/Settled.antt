@@ -16,8 +16,8 @@ use lib.Ieee.Order.{round-mono}
 use lib.Ieee.Positive.{positive, above, positive-of-value, value-pos, above-of-le}
 use Rattle.loops.specs.Fold.{foldTo}
 use Rattle.loops.specs.Sum.{sumTo}
-use Rattle.float_bits.specs.Extremes.{minOf, maxOf}
-use Rattle.float_bits.proofs.Zeros.{isZero, Apart, min-either, max-either}
+use Rattle.float_extremes.specs.Extremes.{minOf, maxOf}
+use Rattle.float_extremes.proofs.Zeros.{isZero, Apart, min-either, max-either}
 use Rattle.float_root.proofs.Roots.{shape}
 use Rattle.float_root.proofs.Nearest.{units-of}
 

@@ -14,7 +14,7 @@ use Rattle.loops.specs.Nan.{add-nan}
 use Rattle.loops.specs.Pick.{pick-false}
 use Rattle.loops.specs.Sum.{sumTo}
 use Rattle.buffers.specs.Buffers.{zero32}
-use Rattle.float_bits.specs.Extremes.{maxOf}
+use Rattle.float_extremes.specs.Extremes.{maxOf}
 use Rattle.plc_best.specs.Best.{minusOne, considered, sweepTurn, sweepTo, bestStart, findBestPitch}
 use Rattle.plc_correlate.specs.Correlation.{crossSum, correlation}
 use Rattle.plc_search.specs.Search.{everySecond, near, fineAt, coarse, fine, coarseBest, fineBest, refined, pitchSearch}

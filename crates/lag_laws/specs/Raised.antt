@@ -5,7 +5,7 @@ use mathlib.Core.List.{List}
 use Prim.Native.Nat.{ℕ, _+_}
 use lib.Ieee.{Float, binary32, add, sub, lt, neg, isNan, ofBits}
 use Rattle.buffers.specs.Buffers.{one32, squareAt}
-use Rattle.float_bits.specs.Extremes.{maxOf}
+use Rattle.float_extremes.specs.Extremes.{maxOf}
 use Rattle.plc_best.specs.Best.{minusOne, nextEnergy}
 use Rattle.plc_correlate.specs.Correlation.{crossSum, correlation}
 

@@ -8,7 +8,7 @@ use lib.Ieee.{Float, nan, binary32, add, sub, mul, lt, neg}
 use Rattle.loops.specs.Fold.{foldTo}
 use Rattle.loops.specs.Sum.{sumTo}
 use Rattle.buffers.specs.Buffers.{zero32, one32, squareAt}
-use Rattle.float_bits.specs.Extremes.{maxOf}
+use Rattle.float_extremes.specs.Extremes.{maxOf}
 use Rattle.plc_best.specs.declared.Best.{Best}
 use Rattle.plc_best.specs.declared.Pitches.{Pitches}
 use Rattle.plc_best.specs.declared.Pitches.the-variants.{Pair, Refused}

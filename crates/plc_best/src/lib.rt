@@ -78,7 +78,7 @@ fn two_best(xcorr: &[f32], y: &[f32], len: usize, max_pitch: usize) -> Best
         best = consider(best, xcorr[i], syy, i);
         let newest = y[i + len];
         let oldest = y[i];
-        syy = float_bits::extremes::max_f32(syy + (newest * newest - oldest * oldest), 1.0);
+        syy = float_extremes::max_f32(syy + (newest * newest - oldest * oldest), 1.0);
     }
     best
 }

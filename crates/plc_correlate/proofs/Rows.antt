@@ -13,7 +13,7 @@ use Rattle.loops.specs.Front.{front, tab, tab-same, tab-list, tab-read, getD-ta
 use Rattle.loops.specs.Reply.{reply, replyIf, reply-lent}
 use Rattle.loops.specs.Sum.{sum-none, sum-more, sum-same}
 use Rattle.buffers.specs.Buffers.{zero32}
-use Rattle.float_bits.specs.Extremes.{maxOf}
+use Rattle.float_extremes.specs.Extremes.{maxOf}
 use Rattle.plc_best.specs.Best.{minusOne}
 use Rattle.plc_correlate.specs.Correlation.{crossSum, correlation, correlateTakes}
 

@@ -7,7 +7,7 @@ use lib.ListN.{getD}
 use lib.Ieee.{Float, nan, binary32, mul}
 use Rattle.loops.specs.Sum.{sumTo}
 use Rattle.buffers.specs.Buffers.{zero32}
-use Rattle.float_bits.specs.Extremes.{maxOf}
+use Rattle.float_extremes.specs.Extremes.{maxOf}
 use Rattle.plc_best.specs.Best.{minusOne}
 
 -- the first n samples of x against y from i on, in order from +0

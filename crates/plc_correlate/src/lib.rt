@@ -43,7 +43,7 @@ pub fn correlate(x: &[f32], y: &[f32], xcorr: &mut [f32]) -> bool
     cross_sums(x, y, xcorr);
     let m = xcorr.len();
     for i in 0..m {
-        xcorr[i] = float_bits::extremes::max_f32(xcorr[i], -1.0);
+        xcorr[i] = float_extremes::max_f32(xcorr[i], -1.0);
     }
     true
 }

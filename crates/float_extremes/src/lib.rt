@@ -2,7 +2,7 @@
 ghost use mathlib.Core.Path.{_≡_};
 ghost use mathlib.Core.Bool.{cond};
 ghost use lib.Ieee.{isNan};
-ghost use Rattle.float_bits.specs.Extremes.{minOf, maxOf};
+ghost use Rattle.float_extremes.specs.Extremes.{minOf, maxOf};
 
 // y where x is NaN, x where y is; of two numbers y where `second` says so, else x.
 fn number_of(x: f32, y: f32, second: bool) -> f32

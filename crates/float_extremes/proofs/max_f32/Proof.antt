@@ -1,6 +1,6 @@
-use Rattle.float_bits.specs.Extremes.{maxOf}
-use Rattle.float_bits.proofs.extremes.max_f32.Statement.{statement}
-use Rattle.float_bits.proofs.extremes.max_f32.Tie as tie
+use Rattle.float_extremes.specs.Extremes.{maxOf}
+use Rattle.float_extremes.proofs.max_f32.Statement.{statement}
+use Rattle.float_extremes.proofs.max_f32.Tie as tie
 
 number-of-requires : tie.Need-number-of-requires
 number-of-requires c κs = tt

@@ -13,7 +13,7 @@ use lib.Ieee.Bits.{ofBits-toBits}
 use lib.Ieee.Nearest.{div-same}
 use borrow.Author.Tests.{ltb-true, ltb-false, lt-ltb, le-ltb}
 use Rattle.loops.specs.Pick.{pick-true, pick-false}
-use Rattle.float_bits.specs.Extremes.{minOf, maxOf}
+use Rattle.float_extremes.specs.Extremes.{minOf, maxOf}
 
 -- a zero of either sign
 abbrev pub isZero : Float → Bool

@@ -1,6 +1,6 @@
-use Rattle.float_bits.proofs.Extreme.{first-nan, second-nan, second-wins, first-stays}
-use Rattle.float_bits.proofs.extremes.number_of.Statement.{statement}
-use Rattle.float_bits.proofs.extremes.number_of.Tie as tie
+use Rattle.float_extremes.proofs.Extreme.{first-nan, second-nan, second-wins, first-stays}
+use Rattle.float_extremes.proofs.number_of.Statement.{statement}
+use Rattle.float_extremes.proofs.number_of.Tie as tie
 
 returns : tie.Need-returns
 returns c = let a = c .before .args in first-nan (a .second) (a .x) (a .y) (c .if1 .taken)

@@ -1,0 +1,2 @@
+mod Extreme
+pub mod Zeros
