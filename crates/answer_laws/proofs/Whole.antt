@@ -23,7 +23,8 @@ front-written xs head = take-at xs (drop (length xs) head) (length xs) refl
 tail-written : (n : ℕ) → headBytes (answerTail n buffer) ≡ cutOf n
 unfolding answerTail
 tail-written n =
-    ap headBytes (pick-true (leb reportLength (length buffer)) (headedBy (cutOf n) buffer) (headed 0 buffer) (le-leb reportLength (length buffer) (omega (arith, length-replicate {A = ℕ} headMost 0))))
+    ap headBytes (pick-true (leb reportLength (length buffer)) (headedBy (cutOf n) buffer) (headed 0 buffer)
+    (le-leb reportLength (length buffer) (omega (arith, length-replicate {A = ℕ} headMost 0))))
     ∙ front-written (cutOf n) buffer
 
 whole-written : (b : List ℕ) → length b ≡ recordLength → wholeStep b ≡ headOf (lossOf b) ++ recordAfter b

@@ -79,10 +79,14 @@ module _ (n lag : ℕ) (first : Bool) (f : Filter) (h : List Float) (lh : length
   unfolding extrapolateTakes cycleTakes
   taken m s p q = simp (le-leb m longest (omega arith), eq-eqb s half q, le-leb 1 lag (omega arith), le-leb lag half (omega arith))
 
+  -- y is what the step leaves that takes e into the samples x
+  abbrev TakenIn : List Float → List Float → List Float → Bool → Type 0
+  TakenIn x e y b = reply b y ≡ replyIf (tailTakes (length x) n (length e) f) (tailList (tailAfter n e f (tailOf x))) x
+
   -- e: what follows channel 0; y: its tail after that
   pub one-is : (e₀ e y c : List Float) (b d : Bool) → length e₀ ≡ n + extra
       → reply b e ≡ replyIf (extrapolateTakes (length e₀) (length (take half (drop half h))) lag) (extrapolated (length e₀) (take half (drop half h)) lag first c) e₀
-      → reply d y ≡ replyIf (tailTakes (length (take (half + overlap) (drop half h))) n (length e) f) (tailList (tailAfter n e f (tailOf (take (half + overlap) (drop half h))))) (take (half + overlap) (drop half h))
+      → TakenIn (take (half + overlap) (drop half h)) e y d
       → put half (half + overlap) y h ≡ withTails h (firstTail n lag first c f (tails h))
   unfolding firstTail
   one-is e₀ e y c b d l p q =
@@ -106,8 +110,8 @@ module _ (n lag : ℕ) (first : Bool) (f : Filter) (h : List Float) (lh : length
       ≡ replyIf (extrapolatePairTakes (length e₀) (length d₀) (length (take half (drop half h))) (length (take half (drop (channel + half) h))) lag)
       (channels (extrapolated (length e₀) (take half (drop half h)) lag first c) (extrapolated (length d₀) (take half (drop (channel + half) h)) lag first k))
       (channels e₀ d₀)
-      → reply b0 y ≡ replyIf (tailTakes (length (take (half + overlap) (drop half h))) n (length e) f) (tailList (tailAfter n e f (tailOf (take (half + overlap) (drop half h))))) (take (half + overlap) (drop half h))
-      → reply b1 w ≡ replyIf (tailTakes (length (take (half + overlap) (drop (channel + half) (put half (half + overlap) y h)))) n (length d) f) (tailList (tailAfter n d f (tailOf (take (half + overlap) (drop (channel + half) (put half (half + overlap) y h)))))) (take (half + overlap) (drop (channel + half) (put half (half + overlap) y h)))
+      → TakenIn (take (half + overlap) (drop half h)) e y b0
+      → TakenIn (take (half + overlap) (drop (channel + half) (put half (half + overlap) y h))) d w b1
       → put (channel + half) (half + overlap) w (put half (half + overlap) y h) ≡ withTails h (bothTails n lag first c k f (tails h))
   unfolding bothTails extrapolatePairTakes
   both-is e₀ d₀ e d y w c k b b0 b1 l m p q r =

@@ -46,7 +46,9 @@ returns c =
     let b = start .args .rec .now in
     let made = call .conceal-record .ensures in
     let number = value .value .ensures in
-    let head = head-is b (call .conceal-record .result) _ _ _ made _ (start .args .head .now) _ (omega (arith, call .conceal-record .kept .1 .1 .0)) (start .pre .1) number (c .before .before .write-head .ensures) in
+    let head =
+    head-is b (call .conceal-record .result) _ _ _ made _ (start .args .head .now) _ (omega (arith, call .conceal-record .kept .1 .1 .0)) (start .pre .1) number
+    (c .before .before .write-head .ensures) in
     ap₂ withRecord head (record-is b (call .conceal-record .result) _ _ _ made _ _ number (keep .keep-record .ensures))
 
 pub answer-spec : {M : Type 1} → statement M

@@ -29,7 +29,8 @@ returns : tie.Need-returns
 returns c = let a = c .before .before .before .before .before .before .before .before .args in
     let pad = c .before .before .before .before .remember in
     let e = c .before .copy .ensures in (
-      remembers-put (a .mem .now) (a .buf .now) (pad .last .0) (c .before .copy .last .0) 1024 (search needs) e (remembers-all (a .mem .now) 1048 zero32 (pad .ensures) (search needs) (search needs)) (search needs),
+      remembers-put (a .mem .now) (a .buf .now) (pad .last .0) (c .before .copy .last .0) 1024 (search needs) e
+          (remembers-all (a .mem .now) 1048 zero32 (pad .ensures) (search needs) (search needs)) (search needs),
       holds-put (a .mem .now) (a .buf .now) (pad .last .0) (c .before .copy .last .0) 1024 (search needs) e (search needs),
     )
 
