@@ -14,7 +14,7 @@ pub refused-leaves : (n : ℕ) (s : State) (h : List Float) → Refused n s h (r
 unfolding refused
 refused-leaves n s h = record { number = refl; kind = refl; samples = refl; pcm = refl; state = refl; history = refl }
 
-pub finish-concludes : (s : State) (m : Made) (h : List Float) → checkSettings (s .settings) ≡ 0 → Concluded s m (finish s m h)
+pub finish-concludes : (s : State) (m : Made) (h : List Float) → checkSettings (s .settings) ≡ 0 → Concluded s m h (finish s m h)
 unfolding finish frameSound
 finish-concludes s m h good = record {
   number = refl;
@@ -29,4 +29,5 @@ finish-concludes s m h good = record {
   lag = refl;
   coarse = refl;
   predictor = refl;
+  history = refl;
 }

@@ -19,8 +19,8 @@ pub record Refused (n : ℕ) (s : State) (h : List Float) (o : Outcome) : Type 0
   pub state : o .state ≡ s
   pub history : o .history ≡ h
 
--- what an accepted call answers and leaves, from what its path made
-pub record Concluded (s : State) (m : Made) (o : Outcome) : Type 0 where
+-- what an accepted call answers and leaves, from what its path made and the history that it left
+pub record Concluded (s : State) (m : Made) (h : List Float) (o : Outcome) : Type 0 where
   pub number : o .report .number ≡ 0
   pub kind : o .report .kind ≡ m .kind
   -- channels × N / downsample
@@ -35,3 +35,4 @@ pub record Concluded (s : State) (m : Made) (o : Outcome) : Type 0 where
   pub lag : o .state .lag ≡ m .lag
   pub coarse : o .state .coarse ≡ m .coarse
   pub predictor : o .state .predictor ≡ m .predictor
+  pub history : o .history ≡ h

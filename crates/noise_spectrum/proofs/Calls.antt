@@ -43,7 +43,7 @@ pub over-zeros : (m start end d seed : ℕ) (energies bins : List Float) → bin
     × (spectrumOver m start end d seed energies bins .seed ≡ noiseShape m start seed (replicate (120 * m) zero32) .seed)
 unfolding spectrumOver spectrum
 over-zeros m start end d seed energies bins e = (
-  ap (λ z. cleared (bound m end d) (foldRange (gainTurn m energies) (noiseShape m start seed z .bins) start end)) e,
+  ap (λ z. spectrumOver m start end d seed energies z .bins) e,
   ap (λ z. noiseShape m start seed z .seed) e,
 )
 

@@ -34,13 +34,7 @@ bound m end downsample =
 unfoldable pub cleared : ℕ → List Float → List Float
 cleared b bins = take b bins ++ replicate (length bins - b) zero32
 
--- the noise of the bands from start to just below end, times their gains, over bins that are zero elsewhere
-unfoldable pub spectrum : ℕ → ℕ → ℕ → ℕ → ℕ → List Float → List Float
-spectrum m start end downsample seed energies =
-    let bins = noiseShape m start seed (replicate (shortBlock * m) zero32) .bins in
-    cleared (bound m end downsample) (foldRange (gainTurn m energies) bins start end)
-
--- the same over any bins, with the seed after all draws
+-- over the bins of a block the noise of the bands from start to just below end, times their gains, and the seed after all draws
 unfoldable pub spectrumOver : ℕ → ℕ → ℕ → ℕ → ℕ → List Float → List Float → Shape
 spectrumOver m start end downsample seed energies bins =
     let s = noiseShape m start seed bins in
@@ -48,6 +42,10 @@ spectrumOver m start end downsample seed energies bins =
       bins = cleared (bound m end downsample) (foldRange (gainTurn m energies) (s .bins) start end);
       seed = s .seed;
     }
+
+-- the bins of that where they come as zeros
+unfoldable pub spectrum : ℕ → ℕ → ℕ → ℕ → ℕ → List Float → List Float
+spectrum m start end downsample seed energies = spectrumOver m start end downsample seed energies (replicate (shortBlock * m) zero32) .bins
 
 -- a block factor of at most 8, end at least start and at most 21, and a factor of downsampling
 unfoldable pub spectrumFits : ℕ → ℕ → ℕ → ℕ → Bool
@@ -95,7 +93,7 @@ bound-in m end downsample h = go (not (eqb downsample 1)) (ltb (shortBlock * m /
 
 pub length-spectrum : (m start end downsample seed : ℕ) (energies : List Float) → start ≤ end → end ≤ bands
     → length (spectrum m start end downsample seed energies) ≡ shortBlock * m
-unfolding spectrum
+unfolding spectrum spectrumOver
 length-spectrum m start end downsample seed energies h k =
     let z = replicate (shortBlock * m) zero32 in
     let bins = noiseShape m start seed z .bins in
