@@ -1,21 +1,69 @@
--- A record's bytes, part by part.
+-- A record, part by part: the state read from it, and its bytes.
 use mathlib.Core.Path.{_≡_, ap, _∙_}
 use mathlib.Core.Bool.{true, false}
-use mathlib.Core.List.{List, _++_, append-nil}
+use mathlib.Core.List.{List, [], _∷_, _++_, append-nil}
 use Prim.Native.Nat.{ℕ, _+_, _*_}
 use native.Mathlib.Omega.{arith}
 use lib.ListN.{length, drop-of-length-le, length-append}
 use lib.Dec.{eqb}
-use lib.Ieee.{Float}
+use lib.Ieee.{Float, binary32, ofBits, toBits}
 use borrow.Author.Tests.{eq-eqb, ne-eqb}
 use Rattle.loops.specs.Logic.{and-both, and-first, and-second}
 use Rattle.loops.specs.Part.{put}
 use Rattle.loops.specs.Front.{front}
 use Rattle.history.specs.History.{whole}
+use Rattle.post_filter.specs.declared.Filter.{Filter}
+use Rattle.settings.specs.declared.Settings.{Settings}
 use Rattle.state.specs.declared.State.{State}
-use Rattle.words.specs.Bytes.{wordsBytes, floatsBytes}
+use Rattle.words.specs.Bytes.{wordAt, floatsAt, wordsBytes, floatsBytes}
 use Rattle.words.proofs.Laws.{length-bytes, put-front, put-next}
-use Rattle.record.specs.Record.{headWords, stateBytes, recordOf, recordLength, writable}
+use Rattle.record.specs.Record.{settingsOf, filterOf, stateOf, headWords, stateBytes, recordOf, recordLength, writable}
+
+-- what is read field by field is the part of the record
+pub settings-parts : (b : List ℕ) {l c s e d : ℕ} → l ≡ wordAt b 0 → c ≡ wordAt b 1 → s ≡ wordAt b 2 → e ≡ wordAt b 3 → d ≡ wordAt b 4
+    → record { lm = l; channels = c; start = s; end = e; downsample = d } ≡ settingsOf b
+unfolding settingsOf
+settings-parts b l c s e d = λ i. record { lm = l i; channels = c i; start = s i; end = e i; downsample = d i }
+
+pub filter-parts : (b : List ℕ) {p t w : ℕ} {g : Float} → p ≡ wordAt b 8 → w ≡ wordAt b 9 → g ≡ ofBits binary32 w → t ≡ wordAt b 10
+    → record { gain = g; period = p; tapset = t } ≡ filterOf b
+unfolding filterOf
+filter-parts b p w g t = λ i. record { gain = (g ∙ ap (ofBits binary32) w) i; period = p i; tapset = t i }
+
+pub state-fields : (b : List ℕ) {k : Settings} {l d g : ℕ} {f : Filter} {coarse background memories predictor : List Float}
+    → k ≡ settingsOf b → l ≡ wordAt b 5 → d ≡ wordAt b 6 → g ≡ wordAt b 7 → f ≡ filterOf b
+    → coarse ≡ floatsAt b 11 50 → background ≡ floatsAt b 61 50 → memories ≡ floatsAt b 111 2 → predictor ≡ floatsAt b 113 48
+    → record {
+      settings = k;
+      «loss_count» = l;
+      seed = d;
+      lag = g;
+      filter = f;
+      coarse = coarse;
+      background = background;
+      memories = memories;
+      predictor = predictor;
+    } ≡ stateOf b
+unfolding stateOf
+state-fields b k l d g f p q r t = λ i. record {
+  settings = k i;
+  «loss_count» = l i;
+  seed = d i;
+  lag = g i;
+  filter = f i;
+  coarse = p i;
+  background = q i;
+  memories = r i;
+  predictor = t i;
+}
+
+pub head-parts : (s : State) {g : ℕ} → g ≡ toBits binary32 (s .filter .gain)
+    → s .settings .lm ∷ s .settings .channels ∷ s .settings .start ∷ s .settings .end ∷ s .settings .downsample ∷ s .«loss_count» ∷ s .seed ∷ s .lag
+    ∷ s .filter .period ∷ g ∷ s .filter .tapset ∷ [] ≡ headWords s
+unfolding headWords
+head-parts s e = λ i.
+    s .settings .lm ∷ s .settings .channels ∷ s .settings .start ∷ s .settings .end ∷ s .settings .downsample ∷ s .«loss_count» ∷ s .seed ∷ s .lag
+    ∷ s .filter .period ∷ e i ∷ s .filter .tapset ∷ []
 
 -- a state's bytes, part by part
 pub state-parts : (s : State) (ws h b d f : List ℕ) → ws ≡ headWords s → b ≡ put 0 (4 * length ws) (wordsBytes ws) h

@@ -1,6 +1,6 @@
 -- `record::head_words` meets its contract: word by word.
 use borrow.Author.Needs.{needs}
-use Rattle.record.specs.Record.{headWords}
+use Rattle.record.proofs.Parts.{head-parts}
 use Rattle.record.proofs.head_words.Statement.{statement}
 use Rattle.record.proofs.head_words.Tie as tie
 
@@ -8,8 +8,7 @@ f32-to-word-requires : tie.Need-f32-to-word-requires
 f32-to-word-requires c κs = search needs
 
 returns : tie.Need-returns
-unfolding headWords
-returns c = cc
+returns c = head-parts (c .before .before .before .args .s) (c .f32-to-word .ensures)
 
 pub head-words-spec : {M : Type 1} → statement M
 head-words-spec = tie.close (tie.spec f32-to-word-requires returns)

@@ -1,6 +1,6 @@
 -- `record::read_filter` meets its contract: word by word.
 use borrow.Author.Needs.{needs}
-use Rattle.record.specs.Record.{filterOf}
+use Rattle.record.proofs.Parts.{filter-parts}
 use Rattle.record.proofs.read_filter.Statement.{statement}
 use Rattle.record.proofs.read_filter.Tie as tie
 
@@ -17,8 +17,7 @@ word-at-requires-3 : tie.Need-word-at-requires-3
 word-at-requires-3 c κs = search needs
 
 returns : tie.Need-returns
-unfolding filterOf
-returns c = cc
+returns c = filter-parts _ (c .before .before .before .word-at .ensures) (c .before .before .word-at2 .ensures) (c .before .f32-from-word .ensures) (c .word-at3 .ensures)
 
 pub read-filter-spec : {M : Type 1} → statement M
 read-filter-spec =

@@ -1,6 +1,6 @@
 -- `record::read_state` meets its contract: field by field.
 use borrow.Author.Needs.{needs}
-use Rattle.record.specs.Record.{stateOf}
+use Rattle.record.proofs.Parts.{state-fields}
 use Rattle.record.proofs.read_state.Statement.{statement}
 use Rattle.record.proofs.read_state.Tie as tie
 
@@ -38,8 +38,13 @@ floats-at-requires-2 : tie.Need-floats-at-requires-2
 floats-at-requires-2 c κs = search needs
 
 returns : tie.Need-returns
-unfolding stateOf
-returns c = cc
+returns c =
+    let floats = c .before .before .before .before in
+    let filter = floats .before .before .before .before in
+    let words = filter .before in
+    state-fields _ (words .before .before .before .read-settings .ensures) (words .before .before .word-at .ensures) (words .before .word-at2 .ensures)
+    (words .word-at3 .ensures) (filter .read-filter .ensures) (floats .before .before .before .read-energies .ensures)
+    (floats .before .before .read-energies2 .ensures) (floats .floats-at .ensures) (c .before .floats-at2 .ensures)
 
 pub read-state-spec : {M : Type 1} → statement M
 read-state-spec =
