@@ -11,26 +11,13 @@ ghost use Rattle.loss.specs.Loss.{concealed, loss, outcomeOf, inBuffer};
 use finish::finish;
 use state::Answer;
 use state::State;
+use state::by_noise;
 use state::checks::first_refusal;
 
 // The kinds of an accepted loss.
 const PITCH_KIND: u32 = 1;
 
 const NOISE_KIND: u32 = 2;
-
-// The first loss count that goes by noise at any start band.
-const FIRST_NOISE: u32 = 5;
-
-// Whether an accepted loss goes by noise.
-fn by_noise(s: State) -> bool
-    ensures { λ r. ⌜ r ≡ noisy (core s) ⌝ }
-{
-    let k = s.settings;
-    if FIRST_NOISE <= s.loss_count {
-        return true;
-    }
-    k.start != 0
-}
 
 fn conceal_by_noise(s: State, history: &mut [f32], pcm: &mut [f32]) -> Answer
     requires { ⌜ (refusal s (length (now history)) (length (now pcm)) ≡ 0) × (noisy (core s) ≡ true) ⌝ }

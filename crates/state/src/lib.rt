@@ -1,6 +1,8 @@
-// What a decoder carries from frame to frame, which states and buffers are refused, and what a call answers.
+// What a decoder carries from frame to frame, which states and buffers are refused, by which path a loss goes, and what a call answers.
 pub mod checks;
 
+ghost use mathlib.Core.Path.{_≡_};
+ghost use Rattle.state.specs.State.{core, noisy};
 use post_filter::Filter;
 use settings::Number;
 use settings::Settings;
@@ -24,4 +26,18 @@ pub struct Answer {
     pub kind: u32,
     pub samples: usize,
     pub state: State,
+}
+
+// The first loss count that goes by noise at any start band.
+const FIRST_NOISE: u32 = 5;
+
+// Whether an accepted loss goes by noise.
+pub fn by_noise(s: State) -> bool
+    ensures { λ r. ⌜ r ≡ noisy (core s) ⌝ }
+{
+    let k = s.settings;
+    if FIRST_NOISE <= s.loss_count {
+        return true;
+    }
+    k.start != 0
 }

@@ -1,9 +1,9 @@
--- `ref_decode::by_noise` meets its contract: by the loss count, or else by the start band.
+-- `state::by_noise` meets its contract: by the loss count, or else by the start band.
 use native.Mathlib.Omega.{arith}
 use borrow.Author.Tests.{le-leb, lt-leb}
 use Rattle.state.specs.State.{noisy}
-use Rattle.ref_decode.proofs.by_noise.Statement.{statement}
-use Rattle.ref_decode.proofs.by_noise.Tie as tie
+use Rattle.state.proofs.by_noise.Statement.{statement}
+use Rattle.state.proofs.by_noise.Tie as tie
 
 returns : tie.Need-returns
 unfolding noisy
