@@ -39,6 +39,16 @@ fn add_taps(out: &mut [f32], num: &[f32], pad: &[f32])
     }
 }
 
+// Filters from a place of buf on.
+fn filter_from(buf: &mut [f32], from: usize, num: &[f32], mem: &[f32])
+    requires { ⌜ (length (now num) ≡ length (now mem)) × (length (now mem) ≤ 24) × (length (now buf) ≤ 1024) × (from < length (now buf)) ⌝ }
+    ensures { λ _. ⌜ now (buf .exit) ≡ celtFirFrom from (now (num .entry)) (now (mem .entry)) (now (buf .entry)) ⌝ }
+{
+    let pad = padded(buf, mem);
+    let end = buf.len() + ORDER;
+    add_taps(&mut buf[from..], num, &pad[from..end]);
+}
+
 // Filters from place `from` on; what stands before it stays.
 // mem, the inputs before the start with the most recent first, is as long as num, 24 at most, and buf 1,024 at most; else refused, and buf stays.
 pub fn celt_fir_from(buf: &mut [f32], from: usize, num: &[f32], mem: &[f32]) -> bool
@@ -60,9 +70,7 @@ pub fn celt_fir_from(buf: &mut [f32], from: usize, num: &[f32], mem: &[f32]) -> 
     if n <= from {
         return true;
     }
-    let pad = padded(buf, mem);
-    let end = n + ORDER;
-    add_taps(&mut buf[from..], num, &pad[from..end]);
+    filter_from(buf, from, num, mem);
     true
 }
 
