@@ -6,9 +6,9 @@ use float_narrow::f64_to_f32;
 ghost use mathlib.Core.Path.{_≡_};
 ghost use mathlib.Core.Bool.{true};
 ghost use mathlib.Core.List.{_++_};
-ghost use Prim.Native.Nat.{_+_, _*_, _/_, _%_, _<_, _≤_};
+ghost use Prim.Native.Nat.{ℕ, _+_, _*_, _/_, _%_, _<_, _≤_};
 ghost use lib.ListN.{length, getD, take};
-ghost use lib.Ieee.{nan};
+ghost use lib.Ieee.{nan, binary64, add, mul};
 ghost use Rattle.loops.specs.Front.{front, tab};
 ghost use Rattle.loops.specs.Reply.{reply};
 ghost use Rattle.cosine_circle.specs.Circle.{isFrameSize, IsCircle};
@@ -34,6 +34,30 @@ fn along(first: usize, by: usize, w: usize) -> [usize; 8]
     r
 }
 
+// Adds an input v to eight sums, each times the cosine at its place.
+fn add_terms(circle: &[f64; 3840], v: f64, at: &[usize; 8], acc: &mut [f64; 8])
+    requires { ⌜ length (now acc) ≡ 8 ⌝ }
+    requires { ⌜ ((j : ℕ) → j < 8 → getD (now at) j 0 < 3840) ⌝ }
+    ensures { λ _. ⌜ now (acc .exit)
+        ≡ tab (λ j. add binary64 (getD (now (acc .entry)) j nan) (mul binary64 v (getD (now (circle .entry)) (getD (now (at .entry)) j 0) nan))) 8 ⌝ }
+{
+    for j in 0..8 {
+        acc[j] = acc[j] + v * circle[at[j]];
+    }
+}
+
+// Takes each of eight places its step on, in a circle of w steps.
+fn onward(step: &[usize; 8], w: usize, at: &mut [usize; 8])
+    requires { ⌜ w ≤ 3840 ⌝ }
+    requires { ⌜ length (now at) ≡ 8 ⌝ }
+    requires { ⌜ ((j : ℕ) → j < 8 → (getD (now at) j 0 < w) × (getD (now step) j 0 < w)) ⌝ }
+    ensures { λ _. ⌜ now (at .exit) ≡ tab (λ j. (getD (now (at .entry)) j 0 + getD (now (step .entry)) j 0) % w) 8 ⌝ }
+{
+    for j in 0..8 {
+        at[j] = wrapped(at[j] + step[j], w);
+    }
+}
+
 // The sums of eight outputs from t on: eight sums side by side, each in the order of the inputs.
 fn eight(circle: &[f64; 3840], x: &[f32], t: usize) -> [f64; 8]
     requires { ⌜ IsCircle (length (now x)) (now circle) ⌝ }
@@ -48,11 +72,8 @@ fn eight(circle: &[f64; 3840], x: &[f32], t: usize) -> [f64; 8]
     let mut acc = [0.0f64; 8];
     for k in 0..n {
         let v = f32_to_f64(x[k]);
-        for j in 0..8 {
-            let i = at[j];
-            acc[j] = acc[j] + v * circle[i];
-            at[j] = wrapped(i + step[j], w);
-        }
+        add_terms(circle, v, &at, &mut acc);
+        onward(&step, w, &mut at);
     }
     acc
 }
