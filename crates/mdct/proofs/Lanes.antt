@@ -1,7 +1,7 @@
 -- Eight outputs side by side: their places on the circle and their sums, input by input.
 use mathlib.Core.Path.{_≡_, ap, _∙_, sym, subst}
 use mathlib.Core.List.{List}
-use Prim.Native.Nat.{ℕ, _+_, _*_, _/_, _%_, _≤_, _<_, _-_}
+use Prim.Native.Nat.{ℕ, _+_, _*_, _/_, _%_, _^_, _≤_, _<_, _-_}
 use native.Mathlib.Omega.{arith}
 use native.Mathlib.Nat.{mod-lt}
 use lib.ListN.{length, getD, replicate}
@@ -29,6 +29,16 @@ next-le j n h = omega arith
 
 pub fewer : (j n : ℕ) → j < n → n - (j + 1) < n - j
 fewer j n h = omega arith
+
+pub in-length : (i m n : ℕ) → n ≡ m → i < m → i < n
+in-length i m n e h = omega arith
+
+-- eight outputs from t on, in room for m
+pub run-in : (t j m : ℕ) → t + 8 ≤ m → j < 8 → t + j < m
+run-in t j m h g = omega arith
+
+pub run-fits : (t j m : ℕ) → t + 8 ≤ m → j < 8 → m < 2 ^ 64 → Fits w64 (t + j)
+run-fits t j m h g k = record { fits = omega arith }
 
 -- a place i and a step s on a circle of w steps, which is at most the table's
 pub place-bytes : (i : ℕ) → i < 3840 → Fits w64 (i * 8)
