@@ -4,11 +4,11 @@ use mathlib.Core.List.{List}
 use Prim.Native.Nat.{ℕ, _+_, _*_, _/_, _%_, _^_, _≤_, _<_, _-_}
 use native.Mathlib.Omega.{arith}
 use native.Mathlib.Nat.{mod-lt}
-use lib.ListN.{length, getD, replicate}
+use lib.ListN.{getD, replicate}
 use mir.Syntax.{w64}
 use mir.Val.{Fits}
 use lib.Ieee.{Float, nan, binary64, ofBits, add, mul}
-use Rattle.loops.specs.Front.{tab, tab-same, length-tab, getD-tab}
+use Rattle.loops.specs.Front.{tab, tab-same, getD-tab}
 use Rattle.loops.specs.Sum.{sumTo, sum-none, sum-more}
 use Rattle.mdct.specs.Imdct.{imdctTerm}
 use Rattle.cosine_circle.specs.Circle.{IsCircle}

@@ -1,6 +1,6 @@
 -- The coefficient put in, and j pairs crossed.
 use mathlib.Core.Path.{_≡_, ap, _∙_, sym, subst}
-use Prim.Native.Nat.{_+_, _≤_, _<_, _-_, _*_, _/_, zero-le}
+use Prim.Native.Nat.{_≤_, _<_, _-_, _*_, zero-le}
 use native.Mathlib.Nat.{le-antisymm, le-of-lt}
 use lib.ListN.{length, set, length-set}
 use mir.Syntax.{w64}

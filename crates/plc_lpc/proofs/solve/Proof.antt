@@ -1,11 +1,10 @@
 -- Zeros first; then the coefficients and the error after i turns, none of which stopped; at a stop nothing later changes.
 use mathlib.Core.Path.{_≡_, ap, _∙_, sym, subst}
 use mathlib.Core.Bool.{true, false}
-use mathlib.Core.List.{List}
 use Prim.Native.Nat.{_+_, _≤_, _<_, _-_, _/_, zero-le}
 use native.Mathlib.Nat.{le-antisymm}
 use lib.ListN.{length, getD, length-replicate}
-use lib.Ieee.{Float, nan}
+use lib.Ieee.{nan}
 use Rattle.loops.specs.Pick.{pick-true, pick-false}
 use Rattle.plc_lpc.specs.Lpc.{lpcTo, celtLpc}
 use Rattle.plc_lpc.proofs.Turn.{next, fewer, on-fits, from-first, length-across, state, none, more, stopped}

@@ -1,14 +1,13 @@
 -- `imdct::eight` meets its contract. With each input every output moves to its next place on the circle, and its sum gets one more term.
 use mathlib.Core.Path.{_≡_, ap, _∙_}
-use mathlib.Core.List.{List}
-use Prim.Native.Nat.{ℕ, _+_, _*_, _/_, _%_, _≤_, _<_, _-_, zero-le}
+use Prim.Native.Nat.{ℕ, _*_, _≤_, _-_, zero-le}
 use native.Mathlib.Omega.{arith}
 use native.Mathlib.Nat.{le-antisymm}
-use lib.ListN.{length, getD}
+use lib.ListN.{length}
 use lib.Dec.{lit≤}
 use Rattle.loops.specs.Front.{tab, length-tab}
 use Rattle.mdct.specs.Imdct.{imdctSum}
-use Rattle.cosine_circle.proofs.Sizes.{Size, sized, at-least, at-most}
+use Rattle.cosine_circle.proofs.Sizes.{Size, sized, at-most}
 use Rattle.mdct.proofs.Lanes.{next-fits, next-le, fewer, places, sums, places-none, places-on, places-less, places-more, sums-none, sums-more}
 use Rattle.mdct.proofs.Lanes.{around-fits, twice-fits, odd-fits, step-fits, step-along, first-fits, first-along, input-fits}
 use Rattle.mdct.proofs.imdct.eight.Statement.{statement}
