@@ -18,14 +18,6 @@ use Rattle.take_in.specs.TakeIn.{extra, tailAfter}
 unfoldable pub pitchTail : ℕ → Tail → ℕ → Bool → List Float → Filter → Tail
 pitchTail n t lag first c f = tailAfter n (extrapolated (n + extra) (t .new) lag first c) f t
 
--- channel 0 alone
-unfoldable pub firstTail : ℕ → ℕ → Bool → List Float → Filter → Tails → Tails
-firstTail n lag first c f t = record { first = pitchTail n (t .first) lag first c f; second = t .second }
-
--- each channel by its own coefficients
-unfoldable pub bothTails : ℕ → ℕ → Bool → List Float → List Float → Filter → Tails → Tails
-bothTails n lag first c d f t = record { first = pitchTail n (t .first) lag first c f; second = pitchTail n (t .second) lag first d f }
-
 -- each used channel, of two or one, by its 24 of 48 coefficients
 unfoldable pub pitchTails : Bool → ℕ → ℕ → Bool → List Float → Filter → Tails → Tails
 pitchTails two n lag first c f t =
