@@ -20,7 +20,9 @@ word-at-requires-5 : tie.Need-word-at-requires-5
 word-at-requires-5 c κs = search needs
 
 returns : tie.Need-returns
-returns c = settings-parts _ (c .before .before .before .before .word-at .ensures) (c .before .before .before .word-at2 .ensures) (c .before .before .word-at3 .ensures) (c .before .word-at4 .ensures) (c .word-at5 .ensures)
+returns c =
+    settings-parts _ (c .before .before .before .before .word-at .ensures) (c .before .before .before .word-at2 .ensures)
+    (c .before .before .word-at3 .ensures) (c .before .word-at4 .ensures) (c .word-at5 .ensures)
 
 pub read-settings-spec : {M : Type 1} → statement M
 read-settings-spec =
