@@ -7,7 +7,7 @@ use native.Mathlib.Numerals.{add-one}
 use native.Mathlib.Nat.{add-zero, add-suc}
 use lib.ListN.{length, getD, set, take, drop, length-append, take-append-drop, replicate, length-replicate, getD-replicate}
 use lib.Seq.{length-take-le, take-at, drop-at, drop-drop, ext-getD}
-use Rattle.loops.specs.Front.{front, front-write, tab, tab-read, tab-all, length-tab, getD-tab}
+use Rattle.loops.specs.Front.{front, front-write, tab, length-tab, getD-tab}
 
 -- a run of outputs that starts at t
 pub rest-none : {A : Type 0} (f : ℕ → A) (xs : List A) (t : ℕ) → xs ≡ front (take t xs ++ tab f 0) xs (t + 0)
@@ -46,16 +46,6 @@ rest-all f g xs b t m e q =
     ∙ ap (λ z. (tab f t ++ tab g m) ++ z)
     (sym (drop-drop m t (tab f t ++ drop t xs)) ∙ ap (drop m) (drop-at (tab f t) (drop t xs) t (length-tab f t)) ∙ drop-drop m t xs)
     ∙ ap (λ z. z ++ drop (t + m) xs) (tab-run f g t m q)
-
--- what a list by index still has at j, when it was filled up to there
-pub lane : {A : Type 0} (f g : ℕ → A) (d : A) (xs b : List A) (n j : ℕ) → b ≡ front (tab g j) xs j → xs ≡ tab f n → j < n → getD b j d ≡ f j
-lane f g d xs b n j e q h =
-    tab-read g d xs b j e (omega (arith, ap length q, length-tab f n)) ∙ ap (λ z. getD z j d) q ∙ getD-tab f n j d h
-
-pub lanes-all : {A : Type 0} (f g : ℕ → A) (d : A) (xs b : List A) (n j : ℕ) → b ≡ front (tab g j) xs j → xs ≡ tab f n → j ≡ n → b ≡ tab g n
-lanes-all f g d xs b n j e q h =
-    let l : length xs ≡ n = ap length q ∙ length-tab f n in
-    tab-all g d xs b j e (l ∙ sym h) ∙ ap (tab g) l
 
 -- n times the same
 pub tab-const : {A : Type 0} (f : ℕ → A) (v : A) (n : ℕ) → ((i : ℕ) → i < n → f i ≡ v) → replicate n v ≡ tab f n
