@@ -1,28 +1,27 @@
--- What an f64's bits stand for, and `narrow` of it. Assumes nothing.
-use mathlib.Core.Path.{_≡_, refl, sym, ap, _∙_, subst}
+-- What an f64's bits stand for, and the clause of it. Assumes nothing.
+use mathlib.Core.Path.{_≡_, sym, ap, _∙_, subst}
+use mathlib.Core.Logic.{inl, inr}
 use Prim.Native.Nat.{ℕ, _+_, _-_, _*_, _/_, _%_, _^_, _≤_, _<_}
+use native.Mathlib.Nat.{mod-lt}
 use native.Mathlib.Omega.{arith}
 use mathlib.Core.Bool.{Bool, true, false, not, cond}
 use lib.Dec.{T, leb, leb→le, nleb→lt}
-use lib.Pow.{pow-pos}
-use lib.Ieee.{Float, nan, inf, fin, binary32, binary64, up, down, round, fits, isNan, ofFields, ofBits, toBits, size}
-use lib.Ieee.Fits.{round-is, round-fits, down-pos, inf-fits, nan-fits}
+use lib.Pow.{pow-pos, split, mod-mod-pow}
+use lib.Ieee.{Float, nan, inf, fin, binary32, binary64, up, down, fits, isNan, ofBits, toBits, size}
+use lib.Ieee.Bits.{ofBits-fits}
+use lib.Ieee.Fits.{round-is, round-fits, inf-fits, nan-fits}
 use lib.Ieee.Exact.{HasValue}
 use lib.Ieee.Nearest.{closest}
-use lib.Ieee.Scale.{round-same}
 use Rattle.float_bits.specs.Steps.{significand}
 use Rattle.float_bits.proofs.Fields.{fields-val, fields-inf, ofBits-is}
-use Rattle.float_bits.proofs.Laws.{toBits-inf, units-real}
+use Rattle.float_bits.proofs.Laws.{here-or-on, toBits-inf, units-real}
 use Rattle.float_narrow.specs.Narrow.{narrow}
+use Rattle.float_narrow.specs.Clause.{clause, rounded}
 use Rattle.float_narrow.specs.Steps.{Magnitude}
+use Rattle.float_narrow.proofs.Clause.{clause-val, clause-inf, rounded-inf}
+use Rattle.float_narrow.proofs.Magnitude.{past-threshold}
 
--- ---- narrow by the value
-narrow-val : (x : Float) (s : Bool) (a : ℕ) → HasValue x s a (2 ^ 1074) → narrow x ≡ round binary32 s a (2 ^ 1074)
-unfolding narrow
-narrow-val nan s a h = absurd h
-narrow-val (inf t) s a h = absurd h
-narrow-val (fin t m e) s a h = ap (λ (z : Bool). round binary32 z (m * up e) (down e)) (h .0) ∙ round-same binary32 s (m * up e) (down e) a (2 ^ 1074) (down-pos e) (pow-pos 1074) (h .1)
-
+-- ---- narrow
 pub narrow-fits : (x : Float) → T (fits binary32 (narrow x))
 unfolding narrow
 narrow-fits nan = nan-fits binary32
@@ -52,30 +51,49 @@ sign-bit b h = go (leb (2 ^ 63) b) (leb→le (2 ^ 63) b) (nleb→lt (2 ^ 63) b)
     go true p q = set (p tt)
     go false p q = clear (q tt)
 
-pub bits-fin : (b r : ℕ) → b < 2 ^ 64 → b % 2 ^ 63 / 2 ^ 52 < 2047 → Magnitude (b % 2 ^ 63 / 2 ^ 52) (b % 2 ^ 52) r → b / 2 ^ 63 * 2 ^ 31 + r ≡ toBits binary32 (narrow (ofBits binary64 b))
-bits-fin b r w h m =
+-- the two fields of the bits without the sign's
+pub fields : (b : ℕ) → b % 2 ^ 63 ≡ b % 2 ^ 63 / 2 ^ 52 * 2 ^ 52 + b % 2 ^ 52
+fields b = sym (ap (λ (z : ℕ). b % 2 ^ 63 / 2 ^ 52 * 2 ^ 52 + z) (sym (mod-mod-pow b 11 52)) ∙ split (b % 2 ^ 63) 52)
+
+by-fields : (b : ℕ) → b % 2 ^ 63 / 2 ^ 52 < 2047 → clause (ofBits binary64 b) ≡ rounded (leb (2 ^ 63) b) (significand binary64 (b % 2 ^ 63 / 2 ^ 52) (b % 2 ^ 52))
+by-fields b h =
     let s = leb (2 ^ 63) b in
     let e = b % 2 ^ 63 / 2 ^ 52 in
     let t = b % 2 ^ 52 in
-    sym (ap (λ (v : Float). toBits binary32 (narrow v)) (ofBits-is binary64 b)
-    ∙ ap (toBits binary32) (narrow-val (ofFields binary64 s e t) s (significand binary64 e t) (fields-val binary64 s e t h))
-    ∙ m .bits s
+    clause-val (ofBits binary64 b) s (significand binary64 e t) (ofBits-fits binary64 b)
+    (subst (λ (v : Float). HasValue v s (significand binary64 e t) (2 ^ 1074)) (sym (ofBits-is binary64 b)) (fields-val binary64 s e t h))
+
+pub bits-fin : (b r : ℕ) → b < 2 ^ 64 → b % 2 ^ 63 / 2 ^ 52 < 2047 → Magnitude (b % 2 ^ 63 / 2 ^ 52) (b % 2 ^ 52) r → b / 2 ^ 63 * 2 ^ 31 + r ≡ toBits binary32 (clause (ofBits binary64 b))
+bits-fin b r w h m =
+    sym (ap (toBits binary32) (by-fields b h)
+    ∙ m .bits (leb (2 ^ 63) b)
     ∙ ap (λ (z : ℕ). z + r) (sign-bit b w))
 
-narrow-inf : (s : Bool) → narrow (inf s) ≡ inf s
-unfolding narrow
-narrow-inf s = refl
+infinite : (b : ℕ) → b < 2 ^ 64 → clause (ofBits binary64 b) ≡ inf (leb (2 ^ 63) b) → b / 2 ^ 63 * 2 ^ 31 + 0x7f80_0000 ≡ toBits binary32 (clause (ofBits binary64 b))
+infinite b w h = sym (ap (toBits binary32) h ∙ toBits-inf (leb (2 ^ 63) b) ∙ ap (λ (z : ℕ). z + 0x7f80_0000) (sign-bit b w))
 
-pub bits-inf : (b : ℕ) → b < 2 ^ 64 → b % 2 ^ 63 / 2 ^ 52 ≡ 2047 → T (not (isNan (ofBits binary64 b))) → b / 2 ^ 63 * 2 ^ 31 + 0x7f80_0000 ≡ toBits binary32 (narrow (ofBits binary64 b))
-bits-inf b w h n =
-    let s = leb (2 ^ 63) b in
-    let e = b % 2 ^ 63 / 2 ^ 52 in
-    let t = b % 2 ^ 52 in
-    sym (ap (λ (v : Float). toBits binary32 (narrow v)) (ofBits-is binary64 b ∙ fields-inf binary64 s e t h (subst (λ (v : Float). T (not (isNan v))) (ofBits-is binary64 b) n))
-    ∙ ap (toBits binary32) (narrow-inf s)
-    ∙ toBits-inf s
-    ∙ ap (λ (z : ℕ). z + 0x7f80_0000) (sign-bit b w))
+-- at the threshold or past it, an infinity too
+pub bits-inf : (b : ℕ) → b < 2 ^ 64 → 0x47ef_ffff_f000_0000 ≤ b % 2 ^ 63 → T (not (isNan (ofBits binary64 b))) → b / 2 ^ 63 * 2 ^ 31 + 0x7f80_0000 ≡ toBits binary32 (clause (ofBits binary64 b))
+bits-inf b w h n = elim (here-or-on (b % 2 ^ 63 / 2 ^ 52) 2047) [
+  | inl a ↦ infinite b w (by-fields b a ∙ rounded-inf s (significand binary64 e t) (past-threshold e t (mod-lt b (pow-pos 52)) (subst (λ (z : ℕ). 0x47ef_ffff_f000_0000 ≤ z) (fields b) h)))
+  | inr a ↦ infinite b w (ap clause (ofBits-is binary64 b ∙ fields-inf binary64 s e t (ones b a) (subst (λ (v : Float). T (not (isNan v))) (ofBits-is binary64 b) n)) ∙ clause-inf s)
+]
+  where
+    s : Bool
+    s = leb (2 ^ 63) b
+
+    e : ℕ
+    e = b % 2 ^ 63 / 2 ^ 52
+
+    t : ℕ
+    t = b % 2 ^ 52
+
+    ones : (b : ℕ) → 2047 ≤ b % 2 ^ 63 / 2 ^ 52 → b % 2 ^ 63 / 2 ^ 52 ≡ 2047
+    ones b h = omega arith
 
 -- ---- what the code's needs ask
-pub not-ones : (b : ℕ) → (b % 2 ^ 63 / 2 ^ 52 ≡ 2047 → ⊥) → b % 2 ^ 63 / 2 ^ 52 < 2047
-not-ones b n = omega arith
+pub digits-are : (b : ℕ) → b % 2 ^ 63 % 2 ^ 52 ≡ b % 2 ^ 52
+digits-are b = mod-mod-pow b 11 52
+
+pub below-ones : (p : ℕ) → p < 0x47ef_ffff_f000_0000 → p / 2 ^ 52 < 2047
+below-ones p h = omega arith

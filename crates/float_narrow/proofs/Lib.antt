@@ -1,2 +1,5 @@
 mod Laws
+mod Nearer
+mod Clause
+mod Magnitude
 mod Decode

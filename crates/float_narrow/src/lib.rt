@@ -1,37 +1,46 @@
-// An f64 to the nearest f32.
+// An f64 to the nearest f32, in the order of IEEE 754-2019, clause 4.3.1 (roundTiesToEven): what stands in quotes is the clause's.
 ghost use mathlib.Core.Path.{_≡_};
 ghost use mathlib.Core.Bool.{not};
 ghost use Prim.Native.Nat.{_+_, _*_, _/_, _%_, _<_, _≤_, _^_};
 ghost use lib.Dec.{T};
 ghost use lib.Ieee.{binary32, binary64, isNan, ofBits, toBits};
-ghost use lib.Ieee.Nearest.{closest};
 ghost use Rattle.float_narrow.specs.Narrow.{narrow};
+ghost use Rattle.float_narrow.specs.Clause.{clause, delivered};
 ghost use Rattle.float_narrow.specs.Steps.{Magnitude};
 
-// q / u to the nearest whole number, a tie to the even one.
+// How many of u lie nearest to q.
 fn nearest(q: u64, u: u64) -> u64
     requires { ⌜ 0 < u ⌝ }
     requires { ⌜ u ≤ 2 ^ 62 ⌝ }
     requires { ⌜ q < 2 ^ 62 ⌝ }
-    ensures { λ r. ⌜ r ≡ closest q u ⌝ }
+    ensures { λ r. ⌜ r ≡ delivered q u ⌝ }
 {
-    let w = q / u;
-    let d = q % u * 2;
-    if d < u {
-        w
-    } else if d == u {
-        w + w % 2
+    // "the two nearest floating-point numbers bracketing" it, and how far each lies from it
+    let below = q / u;
+    let above = below + 1;
+    let under = q - below * u;
+    let over = above * u - q;
+    // "the floating-point number nearest to the infinitely precise result shall be delivered"
+    if under < over {
+        below
+    } else if over < under {
+        above
+    } else if below % 2 == 0 {
+        // "equally near": "the one with an even least significant digit"
+        below
     } else {
-        w + 1
+        above
     }
 }
 
-// The magnitude's bits of the f32 nearest to what an f64's fields e and t stand for, e below 2047.
-fn magnitude(e: u64, t: u64) -> u64
-    requires { ⌜ e < 2047 ⌝ }
+// The bits, without the sign's, of the number nearest to what an f64's fields e and t stand for: of those with 24 digits, the last
+// with an exponent not below the format's least.
+fn nearest_number(e: u64, t: u64) -> u64
+    requires { ⌜ e * 2 ^ 52 + t < 0x47ef_ffff_f000_0000 ⌝ }
     requires { ⌜ t < 2 ^ 52 ⌝ }
     ensures { λ r. ⌜ Magnitude e t r ⌝ }
 {
+    // so far below the least exponent that no digit is left
     if e < 872 {
         return 0;
     }
@@ -39,21 +48,34 @@ fn magnitude(e: u64, t: u64) -> u64
     if e < 897 {
         return nearest(q, 1u64 << (926 - e));
     }
-    let m = (e - 897) * 0x80_0000 + nearest(q, 0x2000_0000);
-    if m < 0x7f80_0000 { m } else { 0x7f80_0000 }
+    (e - 897) * 0x80_0000 + nearest(q, 0x2000_0000)
+}
+
+// The sign's bit of an f32 for that of an f64.
+fn sign_bit(b: u64) -> u64
+    ensures { λ r. ⌜ r ≡ b / 2 ^ 63 * 2 ^ 31 ⌝ }
+{
+    if b < 0x8000_0000_0000_0000 {
+        0
+    } else {
+        0x8000_0000
+    }
 }
 
 // The bits of the f32 nearest to the f64 whose bits are b.
 fn narrow_bits(b: u64) -> u32
     requires { ⌜ T (not (isNan (ofBits binary64 b))) ⌝ }
-    ensures { λ r. ⌜ r ≡ toBits binary32 (narrow (ofBits binary64 b)) ⌝ }
+    ensures { λ r. ⌜ r ≡ toBits binary32 (clause (ofBits binary64 b)) ⌝ }
 {
-    let sign = b / 0x8000_0000_0000_0000 * 0x8000_0000;
-    let e = b % 0x8000_0000_0000_0000 / 0x10_0000_0000_0000;
-    if e == 2047 {
+    // "an infinitely precise result": a larger one has larger bits
+    let precise = b % 0x8000_0000_0000_0000;
+    // "with no change in sign"
+    let sign = sign_bit(b);
+    // "with magnitude at least" 2 ^ 127 * (2 - 2 ^ -24) "shall round to infinity"; an infinity lies past it
+    if 0x47ef_ffff_f000_0000 <= precise {
         return (sign + 0x7f80_0000) as u32;
     }
-    (sign + magnitude(e, b % 0x10_0000_0000_0000)) as u32
+    (sign + nearest_number(precise / 0x10_0000_0000_0000, precise % 0x10_0000_0000_0000)) as u32
 }
 
 // The f32 nearest to x, a tie to the one with the even significand.

@@ -5,7 +5,9 @@ use lib.Ieee.{Float, nan, binary32, binary64, isNan, fits, ofBits, toBits, div}
 use lib.Ieee.Bits.{ofBits-toBits, nanBits-is}
 use lib.Ieee.Compare.{differs-from-itself}
 use Rattle.float_narrow.specs.Narrow.{narrow}
+use Rattle.float_narrow.specs.Clause.{clause}
 use Rattle.float_bits.proofs.Word.{real}
+use Rattle.float_narrow.proofs.Clause.{clause-narrow}
 use Rattle.float_narrow.proofs.Decode.{narrow-fits, narrow-real}
 use Rattle.float_narrow.proofs.f64_to_f32.Statement.{statement}
 use Rattle.float_narrow.proofs.f64_to_f32.Tie as tie
@@ -22,7 +24,8 @@ held c = subst T (sym (c .good .0 .1)) tt
 result : (c : tie.After-narrow-bits) → ofBits binary32 (c .narrow-bits .result) ≡ narrow (c .before .before .args .x)
 result c =
     let x = c .before .before .args .x in
-    ap (ofBits binary32) (c .narrow-bits .ensures ∙ ap (λ (v : Float). toBits binary32 (narrow v)) (ofBits-toBits binary64 x (held (c .before .before))))
+    let fit = held (c .before .before) in
+    ap (ofBits binary32) (c .narrow-bits .ensures ∙ ap (λ (v : Float). toBits binary32 (clause v)) (ofBits-toBits binary64 x fit) ∙ ap (toBits binary32) (clause-narrow x fit))
     ∙ ofBits-toBits binary32 (narrow x) (narrow-fits x)
 
 returns : tie.Need-returns

@@ -1,12 +1,14 @@
 use borrow.Author.Needs.{needs}
-use Prim.Native.Nat.{_^_, _<_}
+use mathlib.Core.Path.{ap, _∙_, subst}
+use Prim.Native.Nat.{ℕ, _+_, _/_, _%_, _^_, _<_}
 use native.Mathlib.Omega.{arith}
-use Rattle.float_narrow.proofs.Decode.{bits-fin, bits-inf, not-ones}
+use Rattle.float_narrow.specs.Steps.{Magnitude}
+use Rattle.float_narrow.proofs.Decode.{bits-fin, bits-inf, below-ones, digits-are}
 use Rattle.float_narrow.proofs.narrow_bits.Statement.{statement}
 use Rattle.float_narrow.proofs.narrow_bits.Tie as tie
 
-mul-sign : tie.Need-mul-sign
-mul-sign c = search needs
+sign-bit-requires : tie.Need-sign-bit-requires
+sign-bit-requires c κs = search needs
 
 add-result : tie.Need-add-result
 add-result c = search needs
@@ -16,12 +18,12 @@ cast-result c = search needs
 
 returns : tie.Need-returns
 returns c =
-    let b = c .before .args .b in
+    let b = c .before .before .args .b in
     let w : b < 2 ^ 64 = omega arith in
-    bits-inf b w (c .if1 .taken) (c .before .pre)
+    ap (λ (z : ℕ). z + 0x7f80_0000) (c .before .sign-bit .ensures) ∙ bits-inf b w (c .if1 .taken) (c .before .before .pre)
 
-magnitude-requires : tie.Need-magnitude-requires
-magnitude-requires c κs = search needs
+nearest-number-requires : tie.Need-nearest-number-requires
+nearest-number-requires c κs = (omega arith, omega arith)
 
 add-result-2 : tie.Need-add-result-2
 add-result-2 c = search needs
@@ -31,19 +33,21 @@ cast-result-2 c = search needs
 
 returns-2 : tie.Need-returns-2
 returns-2 c =
-    let b = c .before .before .args .b in
+    let b = c .before .before .before .args .b in
+    let r = c .nearest-number .result in
     let w : b < 2 ^ 64 = omega arith in
-    bits-fin b (c .magnitude .result) w (not-ones b (c .before .if1 .left)) (c .magnitude .ensures)
+    ap (λ (z : ℕ). z + r) (c .before .before .sign-bit .ensures)
+    ∙ bits-fin b r w (below-ones (b % 2 ^ 63) (c .before .if1 .left)) (subst (λ (t : ℕ). Magnitude (b % 2 ^ 63 / 2 ^ 52) t r) (digits-are b) (c .nearest-number .ensures))
 
 pub narrow-bits-spec : {M : Type 1} → statement M
 narrow-bits-spec =
     tie.close
     (tie.spec
-    mul-sign
+    sign-bit-requires
     add-result
     cast-result
     returns
-    magnitude-requires
+    nearest-number-requires
     add-result-2
     cast-result-2
     returns-2)
