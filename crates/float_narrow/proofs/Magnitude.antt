@@ -4,8 +4,7 @@ use mathlib.Core.Logic.{inl, inr}
 use Prim.Native.Nat.{ℕ, zero, suc, _+_, _-_, _*_, _/_, _%_, _^_, _≤_, _<_, compare, zero-le}
 use native.Mathlib.Nat.{zero-add, one-mul, le-of-lt, mul-lt-mul-of-pos-right, le-trans}
 use native.Mathlib.Nat.{lt-of-lt-of-le, lt-of-le-of-lt, eq-or-lt-of-le}
-use native.Mathlib.Nat.{suc-mul, mul-le-mul-right, mul-le-mul, div-eq-of-lt, mod-eq-of-lt, mod-lt, div-mul-le-self, div-add-mod'}
-use native.Mathlib.Numerals.{add-one}
+use native.Mathlib.Nat.{mul-le-mul-right, mul-le-mul, div-eq-of-lt, mod-eq-of-lt}
 use native.Mathlib.Omega.{arith}
 use mathlib.Core.Bool.{Bool, cond}
 use lib.Dec.{lit<, lit≤}
@@ -208,24 +207,6 @@ mag-fin (suc x) t a l m = record {
 }
 
 -- ---- what the code's needs ask
-next : (q u : ℕ) → (q / u + 1) * u ≡ q / u * u + u
-next q u = ap (λ (z : ℕ). z * u) (add-one (q / u)) ∙ suc-mul (q / u) u
-
-pub under-fits : (q u : ℕ) → q / u * u ≤ q
-under-fits q u = div-mul-le-self q u
-
-pub above-covers : (q u : ℕ) → 0 < u → q ≤ (q / u + 1) * u
-above-covers q u h = covers q (q / u * u) (q % u) u ((q / u + 1) * u) (div-add-mod' q u) (mod-lt q h) (next q u)
-  where
-    covers : (q x r u z : ℕ) → x + r ≡ q → r < u → z ≡ x + u → q ≤ z
-    covers q x r u z e h a = omega arith
-
-pub over-fits : (q u : ℕ) → (q / u + 1) * u ≤ q + u
-over-fits q u = fits q (q / u * u) u ((q / u + 1) * u) (div-mul-le-self q u) (next q u)
-  where
-    fits : (q x u z : ℕ) → x ≤ q → z ≡ x + u → z ≤ q + u
-    fits q x u z h a = omega arith
-
 sh-small : (e : ℕ) → 872 ≤ e → 926 - e ≤ 54
 sh-small e h = omega arith
 

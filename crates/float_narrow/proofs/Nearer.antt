@@ -1,11 +1,12 @@
 -- Of the two numbers that bracket a value, the one that is delivered: what the code asks of it, and that it is the kit's `closest`. Assumes nothing.
-use mathlib.Core.Path.{_≡_, refl, sym, ap, _∙_, subst}
+use mathlib.Core.Path.{_≡_, refl, sym, ap, _∙_}
 use Prim.Native.Nat.{ℕ, zero, suc, _+_, _-_, _*_, _/_, _%_, _≤_, _<_, compare, Ordering, Ordering·lt, Ordering·eq, Ordering·gt}
 use native.Mathlib.Nat.{le-of-lt, le-of-eq, suc-mul, mod-lt, div-add-mod'}
 use native.Mathlib.Numerals.{add-one}
 use native.Mathlib.Omega.{arith}
 use mathlib.Core.Bool.{cond}
 use lib.Dec.{eqb, lit<}
+use lib.Arith.{lt-of-le-ne}
 use lib.Ieee.{nearest}
 use lib.Ieee.Nearest.{closest}
 use Rattle.float_bits.proofs.Laws.{Cmp, cmp, nearest-lt, nearest-eq, nearest-gt}
@@ -47,57 +48,40 @@ nearer-gt a b x y h = go (compare a b) (cmp a b)
     go Ordering·eq k = absurd (clash b a h (le-of-eq k))
     go Ordering·gt k = refl
 
-nearer-eq : (a b x y : ℕ) → b ≤ a → a ≤ b → nearer (compare a b) x y ≡ cond (eqb (x % 2) 0) x y
+nearer-eq : (a b x y : ℕ) → a ≡ b → nearer (compare a b) x y ≡ cond (eqb (x % 2) 0) x y
 unfolding nearer
-nearer-eq a b x y h l = go (compare a b) (cmp a b)
+nearer-eq a b x y h = go (compare a b) (cmp a b)
   where
     go : (o : Ordering) → Cmp o a b → nearer o x y ≡ cond (eqb (x % 2) 0) x y
-    go Ordering·lt k = absurd (clash a b k h)
+    go Ordering·lt k = absurd (clash a b k (le-of-eq (sym h)))
     go Ordering·eq k = refl
-    go Ordering·gt k = absurd (clash b a k l)
+    go Ordering·gt k = absurd (clash b a k (le-of-eq h))
 
--- what the code asks: below, above or the even one is delivered
-pub below-nearer : (q u : ℕ) → q - q / u * u < (q / u + 1) * u - q → q / u ≡ delivered q u
+-- the distances are the remainder and what it lacks of u
+delivered-by : (v u : ℕ) → 0 < u → delivered v u ≡ nearer (compare (v % u) (u - v % u)) (v / u) (suc (v / u))
 unfolding delivered below above
-below-nearer q u h =
-    sym (nearer-lt (q - q / u * u) (suc (q / u) * u - q) (q / u) (suc (q / u)) (subst (λ (z : ℕ). q - q / u * u < z * u - q) (add-one (q / u)) h))
-
-pub above-nearer : (q u : ℕ) → (q / u + 1) * u - q < q - q / u * u → q / u + 1 ≡ delivered q u
-unfolding delivered below above
-above-nearer q u h =
-    add-one (q / u) ∙ sym (nearer-gt (q - q / u * u) (suc (q / u) * u - q) (q / u) (suc (q / u)) (subst (λ (z : ℕ). z * u - q < q - q / u * u) (add-one (q / u)) h))
-
-equally-near : (q u : ℕ) → (q / u + 1) * u - q ≤ q - q / u * u → q - q / u * u ≤ (q / u + 1) * u - q → delivered q u ≡ cond (eqb (q / u % 2) 0) (q / u) (suc (q / u))
-unfolding delivered below above
-equally-near q u h l =
-    nearer-eq (q - q / u * u) (suc (q / u) * u - q) (q / u) (suc (q / u))
-    (subst (λ (z : ℕ). z * u - q ≤ q - q / u * u) (add-one (q / u)) h)
-    (subst (λ (z : ℕ). q - q / u * u ≤ z * u - q) (add-one (q / u)) l)
-
-pub even-near : (q u : ℕ) → (q / u + 1) * u - q ≤ q - q / u * u → q - q / u * u ≤ (q / u + 1) * u - q → q / u % 2 ≡ 0 → q / u ≡ delivered q u
-even-near q u h l e = sym (equally-near q u h l ∙ ap (λ (z : ℕ). cond (eqb z 0) (q / u) (suc (q / u))) e)
-
-pub odd-near : (q u : ℕ) → (q / u + 1) * u - q ≤ q - q / u * u → q - q / u * u ≤ (q / u + 1) * u - q → (q / u % 2 ≡ 0 → ⊥) → q / u + 1 ≡ delivered q u
-odd-near q u h l e =
-    let one : q / u % 2 ≡ 1 = not-even (q / u) e in
-    sym (equally-near q u h l ∙ ap (λ (z : ℕ). cond (eqb z 0) (q / u) (suc (q / u))) one ∙ sym (add-one (q / u)))
-  where
-    not-even : (w : ℕ) → (w % 2 ≡ 0 → ⊥) → w % 2 ≡ 1
-    not-even w h = omega arith
-
-under-is : (v x r : ℕ) → x + r ≡ v → v - x ≡ r
-under-is v x r h = omega arith
-
-over-is : (v x r u : ℕ) → x + r ≡ v → x + u - v ≡ u - r
-over-is v x r u h = omega arith
-
-pub delivered-is : (v u : ℕ) → 0 < u → delivered v u ≡ closest v u
-unfolding delivered below above
-delivered-is v u h =
+delivered-by v u h =
     let w = v / u in
     let r = v % u in
     let parts : w * u + r ≡ v = div-add-mod' v u in
-    let over : suc w * u - v ≡ u - r = ap (λ (z : ℕ). z - v) (suc-mul w u) ∙ over-is v (w * u) r u parts in
     ap (λ (z : ℕ). nearer (compare z (suc w * u - v)) w (suc w)) (under-is v (w * u) r parts)
-    ∙ ap (λ (z : ℕ). nearer (compare r z) w (suc w)) over
-    ∙ near (compare r (u - r)) w r u (cmp r (u - r)) (mod-lt v h)
+    ∙ ap (λ (z : ℕ). nearer (compare r z) w (suc w)) (ap (λ (z : ℕ). z - v) (suc-mul w u) ∙ over-is v (w * u) r u parts)
+  where
+    under-is : (v x r : ℕ) → x + r ≡ v → v - x ≡ r
+    under-is v x r h = omega arith
+
+    over-is : (v x r u : ℕ) → x + r ≡ v → x + u - v ≡ u - r
+    over-is v x r u h = omega arith
+
+pub delivered-is : (v u : ℕ) → 0 < u → delivered v u ≡ closest v u
+delivered-is v u h = delivered-by v u h ∙ near (compare (v % u) (u - v % u)) (v / u) (v % u) u (cmp (v % u) (u - v % u)) (mod-lt v h)
+
+-- ---- what the code asks
+pub below-nearer : (q u : ℕ) → 0 < u → q % u < u - q % u → q / u ≡ delivered q u
+below-nearer q u U h = sym (delivered-by q u U ∙ nearer-lt (q % u) (u - q % u) (q / u) (suc (q / u)) h)
+
+pub above-nearer : (q u : ℕ) → 0 < u → (q % u ≡ u - q % u → ⊥) → u - q % u ≤ q % u → q / u + 1 ≡ delivered q u
+above-nearer q u U n h = sym (delivered-by q u U ∙ nearer-gt (q % u) (u - q % u) (q / u) (suc (q / u)) (lt-of-le-ne h (λ e. n (sym e))) ∙ sym (add-one (q / u)))
+
+pub equally-near : (q u : ℕ) → 0 < u → q % u ≡ u - q % u → q / u + q / u % 2 ≡ delivered q u
+equally-near q u U h = sym (delivered-by q u U ∙ nearer-eq (q % u) (u - q % u) (q / u) (suc (q / u)) h ∙ even (q / u) (q / u % 2) (mod-lt (q / u) (lit< tt)))

@@ -11,11 +11,11 @@ use Rattle.float_narrow.proofs.Magnitude.{mag-zero, mag-sub, mag-fin, t
 use Rattle.float_narrow.proofs.nearest_number.Statement.{statement}
 use Rattle.float_narrow.proofs.nearest_number.Tie as tie
 
-returns : tie.Need-returns
-returns c = mag-zero (c .before .args .e) (c .before .args .t) (c .if1 .taken) (c .before .pre .1)
-
 add-q : tie.Need-add-q
 add-q c = search needs
+
+returns : tie.Need-returns
+returns c = mag-zero (c .before .before .args .e) (c .before .before .args .t) (c .if2 .taken) (c .before .before .pre .1)
 
 sub-nearest : tie.Need-sub-nearest
 sub-nearest c = search needs
@@ -45,28 +45,28 @@ nearest-requires-2 : tie.Need-nearest-requires-2
 nearest-requires-2 c κs = search needs
 
 -- the number found has 24 digits at most
-top : (c : tie.After-nearest2) → c .nearest2 .result ≡ closest (2 ^ 52 + c .before .before .before .args .t) (2 ^ 29)
-top c = c .nearest2 .ensures ∙ delivered-is (2 ^ 52 + c .before .before .before .args .t) (2 ^ 29) (pow-pos 29)
+top : (c : tie.After-nearest2) → c .nearest2 .result ≡ closest (2 ^ 52 + c .before .before .args .t) (2 ^ 29)
+top c = c .nearest2 .ensures ∙ delivered-is (2 ^ 52 + c .before .before .args .t) (2 ^ 29) (pow-pos 29)
 
 add-result : tie.Need-add-result
 add-result c =
-    let t = c .before .before .before .args .t in
-    omega (arith, top-hi t (c .before .before .before .pre .1), top c)
+    let t = c .before .before .args .t in
+    omega (arith, top-hi t (c .before .before .pre .1), top c)
 
 returns-3 : tie.Need-returns-3
 returns-3 c =
-    let e = c .before .before .before .args .e in
-    let t = c .before .before .before .args .t in
+    let e = c .before .before .args .e in
+    let t = c .before .before .args .t in
     let lo : 897 ≤ e = omega arith in
-    let p = c .before .before .before .pre in
+    let p = c .before .before .pre in
     subst (λ (r : ℕ). Magnitude e t ((e - 897) * 2 ^ 23 + r)) (sym (top c)) (mag-fin e t lo (p .1) (p .0))
 
 pub nearest-number-spec : {M : Type 1} → statement M
 nearest-number-spec =
     tie.close
     (tie.spec
-    returns
     add-q
+    returns
     sub-nearest
     shl-nearest
     nearest-requires
