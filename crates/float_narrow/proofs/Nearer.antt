@@ -1,12 +1,11 @@
 -- Of the two numbers that bracket a value, the one that is delivered: what the code asks of it, and that it is the kit's `closest`. Assumes nothing.
-use mathlib.Core.Path.{_≡_, refl, sym, ap, _∙_}
+use mathlib.Core.Path.{_≡_, refl, sym, ap, _∙_, subst}
 use Prim.Native.Nat.{ℕ, zero, suc, _+_, _-_, _*_, _/_, _%_, _≤_, _<_, compare, Ordering, Ordering·lt, Ordering·eq, Ordering·gt}
-use native.Mathlib.Nat.{le-of-lt, le-of-eq, suc-mul, mod-lt, div-add-mod'}
+use native.Mathlib.Nat.{le-of-lt, le-of-eq, le-antisymm, suc-mul, mod-lt, div-add-mod'}
 use native.Mathlib.Numerals.{add-one}
 use native.Mathlib.Omega.{arith}
 use mathlib.Core.Bool.{cond}
 use lib.Dec.{eqb, lit<}
-use lib.Arith.{lt-of-le-ne}
 use lib.Ieee.{nearest}
 use lib.Ieee.Nearest.{closest}
 use Rattle.float_bits.proofs.Laws.{Cmp, cmp, nearest-lt, nearest-eq, nearest-gt}
@@ -77,11 +76,29 @@ pub delivered-is : (v u : ℕ) → 0 < u → delivered v u ≡ closest v u
 delivered-is v u h = delivered-by v u h ∙ near (compare (v % u) (u - v % u)) (v / u) (v % u) u (cmp (v % u) (u - v % u)) (mod-lt v h)
 
 -- ---- what the code asks
-pub below-nearer : (q u : ℕ) → 0 < u → q % u < u - q % u → q / u ≡ delivered q u
-below-nearer q u U h = sym (delivered-by q u U ∙ nearer-lt (q % u) (u - q % u) (q / u) (suc (q / u)) h)
+pub under-is : (q u : ℕ) → q - q / u * u ≡ q % u
+under-is q u = rest q (q / u * u) (q % u) (div-add-mod' q u)
+  where
+    rest : (q x r : ℕ) → x + r ≡ q → q - x ≡ r
+    rest q x r h = omega arith
 
-pub above-nearer : (q u : ℕ) → 0 < u → (q % u ≡ u - q % u → ⊥) → u - q % u ≤ q % u → q / u + 1 ≡ delivered q u
-above-nearer q u U n h = sym (delivered-by q u U ∙ nearer-gt (q % u) (u - q % u) (q / u) (suc (q / u)) (lt-of-le-ne h (λ e. n (sym e))) ∙ sym (add-one (q / u)))
+pub below-nearer : (q u r : ℕ) → 0 < u → r ≡ q % u → r < u - r → q / u ≡ delivered q u
+below-nearer q u r U e h = sym (delivered-by q u U ∙ nearer-lt (q % u) (u - q % u) (q / u) (suc (q / u)) (subst (λ (z : ℕ). z < u - z) e h))
 
-pub equally-near : (q u : ℕ) → 0 < u → q % u ≡ u - q % u → q / u + q / u % 2 ≡ delivered q u
-equally-near q u U h = sym (delivered-by q u U ∙ nearer-eq (q % u) (u - q % u) (q / u) (suc (q / u)) h ∙ even (q / u) (q / u % 2) (mod-lt (q / u) (lit< tt)))
+pub above-nearer : (q u r : ℕ) → 0 < u → r ≡ q % u → u - r < r → q / u + 1 ≡ delivered q u
+above-nearer q u r U e h = sym (delivered-by q u U ∙ nearer-gt (q % u) (u - q % u) (q / u) (suc (q / u)) (subst (λ (z : ℕ). u - z < z) e h) ∙ sym (add-one (q / u)))
+
+equally-near : (q u r : ℕ) → 0 < u → r ≡ q % u → u - r ≤ r → r ≤ u - r → delivered q u ≡ q / u + q / u % 2
+equally-near q u r U e h l =
+    delivered-by q u U
+    ∙ nearer-eq (q % u) (u - q % u) (q / u) (suc (q / u)) (subst (λ (z : ℕ). z ≡ u - z) e (le-antisymm l h))
+    ∙ even (q / u) (q / u % 2) (mod-lt (q / u) (lit< tt))
+
+pub even-near : (q u r : ℕ) → 0 < u → r ≡ q % u → u - r ≤ r → r ≤ u - r → q / u % 2 ≡ 0 → q / u ≡ delivered q u
+even-near q u r U e h l m = let same : q / u ≡ q / u + q / u % 2 = omega arith in same ∙ sym (equally-near q u r U e h l)
+
+pub odd-near : (q u r : ℕ) → 0 < u → r ≡ q % u → u - r ≤ r → r ≤ u - r → (q / u % 2 ≡ 0 → ⊥) → q / u + 1 ≡ delivered q u
+odd-near q u r U e h l m = one (q / u) m ∙ sym (equally-near q u r U e h l)
+  where
+    one : (w : ℕ) → (w % 2 ≡ 0 → ⊥) → w + 1 ≡ w + w % 2
+    one w n = omega arith

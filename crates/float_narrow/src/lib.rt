@@ -15,16 +15,21 @@ fn nearest(q: u64, u: u64) -> u64
     requires { ⌜ q < 2 ^ 62 ⌝ }
     ensures { λ r. ⌜ r ≡ delivered q u ⌝ }
 {
-    // "the two nearest floating-point numbers bracketing" it lie u apart: so far under it, and so far over it
+    // "the two nearest floating-point numbers bracketing" it lie u apart, one so far under it, the other so far over it
     let below = q / u;
-    let under = q % u;
+    let above = below + 1;
+    let under = q - below * u;
     let over = u - under;
     // "the floating-point number nearest to the infinitely precise result shall be delivered"
-    if under != over {
-        if under < over { below } else { below + 1 }
-    } else {
+    if under < over {
+        below
+    } else if over < under {
+        above
+    } else if below % 2 == 0 {
         // "equally near": "the one with an even least significant digit"
-        below + below % 2
+        below
+    } else {
+        above
     }
 }
 
@@ -35,13 +40,15 @@ fn nearest_number(e: u64, t: u64) -> u64
     requires { ⌜ t < 2 ^ 52 ⌝ }
     ensures { λ r. ⌜ Magnitude e t r ⌝ }
 {
+    // so many of 2 ^ (e - 1075); where e is 0 no digit leads, but none is left then
     let q = 0x10_0000_0000_0000 + t;
     if e < 897 {
-        // so far below the least exponent that no digit is left
-        if e < 872 {
+        // the last digit has the least exponent: so many lie beyond it, and where 54 do none is left
+        let beyond = 926 - e;
+        if 54 < beyond {
             return 0;
         }
-        return nearest(q, 1u64 << (926 - e));
+        return nearest(q, 1u64 << beyond);
     }
     (e - 897) * 0x80_0000 + nearest(q, 0x2000_0000)
 }

@@ -1,43 +1,62 @@
 use borrow.Author.Needs.{needs}
-use native.Mathlib.Nat.{div-le-self, mod-lt, le-of-lt}
+use Prim.Native.Nat.{_-_, _*_, _/_}
+use native.Mathlib.Nat.{div-le-self, div-mul-le-self, mod-lt}
 use native.Mathlib.Omega.{arith}
-use Rattle.float_narrow.proofs.Nearer.{below-nearer, above-nearer, equally-near}
+use Rattle.float_narrow.proofs.Nearer.{under-is, below-nearer, above-nearer, even-near, odd-near}
 use Rattle.float_narrow.proofs.nearest.Statement.{statement}
 use Rattle.float_narrow.proofs.nearest.Tie as tie
 
 div-below : tie.Need-div-below
 div-below c = search needs
 
-rem-under : tie.Need-rem-under
-rem-under c = search needs
+add-above : tie.Need-add-above
+add-above c = omega (arith, div-le-self (c .args .q) (c .args .u))
+
+mul-under : tie.Need-mul-under
+mul-under c = omega (arith, div-mul-le-self (c .args .q) (c .args .u))
+
+sub-under : tie.Need-sub-under
+sub-under c = div-mul-le-self (c .args .q) (c .args .u)
 
 sub-over : tie.Need-sub-over
-sub-over c = le-of-lt (mod-lt (c .args .q) (c .pre .0))
-
-add-result : tie.Need-add-result
-add-result c = omega (arith, div-le-self (c .before .before .args .q) (c .before .before .args .u))
-
-add-result-2 : tie.Need-add-result-2
-add-result-2 c = omega (arith, div-le-self (c .before .args .q) (c .before .args .u))
+sub-over c = omega (arith, under-is (c .args .q) (c .args .u), mod-lt (c .args .q) (c .pre .0))
 
 returns : tie.Need-returns
-returns c = below-nearer (c .before .before .args .q) (c .before .before .args .u) (c .before .before .pre .0) (c .if2 .taken)
+returns c =
+    let q = c .before .args .q in
+    let u = c .before .args .u in
+    below-nearer q u (q - q / u * u) (c .before .pre .0) (under-is q u) (c .if1 .taken)
 
 returns-2 : tie.Need-returns-2
-returns-2 c = above-nearer (c .before .before .args .q) (c .before .before .args .u) (c .before .before .pre .0) (c .before .if1 .taken) (c .if2 .left)
+returns-2 c =
+    let q = c .before .before .args .q in
+    let u = c .before .before .args .u in
+    above-nearer q u (q - q / u * u) (c .before .before .pre .0) (under-is q u) (c .if2 .taken)
 
 returns-3 : tie.Need-returns-3
-returns-3 c = equally-near (c .before .args .q) (c .before .args .u) (c .before .pre .0) (c .if1 .left)
+returns-3 c =
+    let s = c .before .before .before in
+    let q = s .args .q in
+    let u = s .args .u in
+    even-near q u (q - q / u * u) (s .pre .0) (under-is q u) (c .before .before .if1 .left) (c .before .if2 .left) (c .if3 .taken)
+
+returns-4 : tie.Need-returns-4
+returns-4 c =
+    let s = c .before .before .before in
+    let q = s .args .q in
+    let u = s .args .u in
+    odd-near q u (q - q / u * u) (s .pre .0) (under-is q u) (c .before .before .if1 .left) (c .before .if2 .left) (c .if3 .left)
 
 pub nearest-spec : {M : Type 1} → statement M
 nearest-spec =
     tie.close
     (tie.spec
     div-below
-    rem-under
+    add-above
+    mul-under
+    sub-under
     sub-over
-    add-result
-    add-result-2
     returns
     returns-2
-    returns-3)
+    returns-3
+    returns-4)

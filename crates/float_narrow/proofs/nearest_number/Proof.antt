@@ -14,11 +14,14 @@ use Rattle.float_narrow.proofs.nearest_number.Tie as tie
 add-q : tie.Need-add-q
 add-q c = search needs
 
-returns : tie.Need-returns
-returns c = mag-zero (c .before .before .args .e) (c .before .before .args .t) (c .if2 .taken) (c .before .before .pre .1)
+sub-beyond : tie.Need-sub-beyond
+sub-beyond c = search needs
 
-sub-nearest : tie.Need-sub-nearest
-sub-nearest c = search needs
+returns : tie.Need-returns
+returns c =
+    let e = c .before .before .args .e in
+    let lo : e < 872 = omega arith in
+    mag-zero e (c .before .before .args .t) lo (c .before .before .pre .1)
 
 shl-nearest : tie.Need-shl-nearest
 shl-nearest c = search needs
@@ -66,8 +69,8 @@ nearest-number-spec =
     tie.close
     (tie.spec
     add-q
+    sub-beyond
     returns
-    sub-nearest
     shl-nearest
     nearest-requires
     returns-2
