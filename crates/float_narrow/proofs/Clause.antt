@@ -18,7 +18,7 @@ use lib.Ieee.Exact.{HasValue}
 use lib.Ieee.Scale.{round-same}
 use Rattle.float_bits.proofs.Laws.{here-or-on, pow-lt-back}
 use Rattle.float_narrow.specs.Narrow.{narrow}
-use Rattle.float_narrow.specs.Clause.{exact, overflows, lastDigit, delivered, rounded, clause}
+use Rattle.float_narrow.specs.Clause.{exact, overflows, lastDigit, delivered, roundTiesToEven, clause}
 use Rattle.float_narrow.proofs.Laws.{size-at, round-at, units-inf, units-fin}
 use Rattle.float_narrow.proofs.Nearer.{delivered-is}
 
@@ -186,9 +186,9 @@ same-units v k =
     mul-assoc v (2 ^ 149) (2 ^ (925 + k))
     ∙ ap (λ (z : ℕ). v * z) (sym (pow-add 2 149 (925 + k)) ∙ ap (λ (z : ℕ). 2 ^ z) (sym (add-assoc 149 925 k)) ∙ pow-add 2 1074 k)
 
-pub rounded-is : (s : Bool) (v : ℕ) → rounded s v ≡ round binary32 s v (2 ^ 1074)
-unfolding rounded
-rounded-is s v =
+pub ties-to-even-is : (s : Bool) (v : ℕ) → roundTiesToEven s v ≡ round binary32 s v (2 ^ 1074)
+unfolding roundTiesToEven
+ties-to-even-is s v =
     let k = Dropped v in
     let u = Unit v in
     ap (λ (d : ℕ). cond (overflows v) (inf s) (odd 25 s (delivered v (2 ^ d)) d 1074)) (last-digit v)
@@ -200,9 +200,9 @@ rounded-is s v =
     go true p q = sym (units-inf s (closest v (Unit v)) (Dropped v) (past v (p tt)))
     go false p q = odd-shift s (closest v (Unit v)) (Dropped v) ∙ sym (units-fin s (closest v (Unit v)) (Dropped v) (short v (q tt)))
 
-pub rounded-inf : (s : Bool) (v : ℕ) → Threshold ≤ v → rounded s v ≡ inf s
-unfolding rounded
-rounded-inf s v h = go (overflows v) (from-threshold v h)
+pub ties-to-even-inf : (s : Bool) (v : ℕ) → Threshold ≤ v → roundTiesToEven s v ≡ inf s
+unfolding roundTiesToEven
+ties-to-even-inf s v h = go (overflows v) (from-threshold v h)
   where
     go : (b : Bool) → T b → cond b (inf s) (odd 25 s (delivered v (2 ^ lastDigit v)) (lastDigit v) 1074) ≡ inf s
     go true t = refl
@@ -255,11 +255,11 @@ pub clause-narrow : (x : Float) → T (fits binary64 x) → clause x ≡ narrow 
 unfolding clause narrow
 clause-narrow nan h = refl
 clause-narrow (inf s) h = refl
-clause-narrow (fin s m e) h = rounded-is s (exact m e) ∙ sym (narrow-val (fin s m e) s (exact m e) (exact-val s m e h))
+clause-narrow (fin s m e) h = ties-to-even-is s (exact m e) ∙ sym (narrow-val (fin s m e) s (exact m e) (exact-val s m e h))
 
 -- ---- the clause by the value
-pub clause-val : (x : Float) (s : Bool) (a : ℕ) → T (fits binary64 x) → HasValue x s a (2 ^ 1074) → clause x ≡ rounded s a
-clause-val x s a h v = clause-narrow x h ∙ narrow-val x s a v ∙ sym (rounded-is s a)
+pub clause-val : (x : Float) (s : Bool) (a : ℕ) → T (fits binary64 x) → HasValue x s a (2 ^ 1074) → clause x ≡ roundTiesToEven s a
+clause-val x s a h v = clause-narrow x h ∙ narrow-val x s a v ∙ sym (ties-to-even-is s a)
 
 pub clause-inf : (s : Bool) → clause (inf s) ≡ inf s
 unfolding clause

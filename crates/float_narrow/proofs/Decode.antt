@@ -16,9 +16,9 @@ use Rattle.float_bits.specs.Steps.{significand}
 use Rattle.float_bits.proofs.Fields.{fields-val, fields-inf, ofBits-is}
 use Rattle.float_bits.proofs.Laws.{here-or-on, toBits-inf, units-real}
 use Rattle.float_narrow.specs.Narrow.{narrow}
-use Rattle.float_narrow.specs.Clause.{clause, rounded}
+use Rattle.float_narrow.specs.Clause.{clause, roundTiesToEven}
 use Rattle.float_narrow.specs.Steps.{Magnitude}
-use Rattle.float_narrow.proofs.Clause.{clause-val, clause-inf, rounded-inf}
+use Rattle.float_narrow.proofs.Clause.{clause-val, clause-inf, ties-to-even-inf}
 use Rattle.float_narrow.proofs.Magnitude.{past-threshold}
 
 -- ---- narrow
@@ -55,7 +55,7 @@ sign-bit b h = go (leb (2 ^ 63) b) (leb→le (2 ^ 63) b) (nleb→lt (2 ^ 63) b)
 pub fields : (b : ℕ) → b % 2 ^ 63 ≡ b % 2 ^ 63 / 2 ^ 52 * 2 ^ 52 + b % 2 ^ 52
 fields b = sym (ap (λ (z : ℕ). b % 2 ^ 63 / 2 ^ 52 * 2 ^ 52 + z) (sym (mod-mod-pow b 11 52)) ∙ split (b % 2 ^ 63) 52)
 
-by-fields : (b : ℕ) → b % 2 ^ 63 / 2 ^ 52 < 2047 → clause (ofBits binary64 b) ≡ rounded (leb (2 ^ 63) b) (significand binary64 (b % 2 ^ 63 / 2 ^ 52) (b % 2 ^ 52))
+by-fields : (b : ℕ) → b % 2 ^ 63 / 2 ^ 52 < 2047 → clause (ofBits binary64 b) ≡ roundTiesToEven (leb (2 ^ 63) b) (significand binary64 (b % 2 ^ 63 / 2 ^ 52) (b % 2 ^ 52))
 by-fields b h =
     let s = leb (2 ^ 63) b in
     let e = b % 2 ^ 63 / 2 ^ 52 in
@@ -75,7 +75,7 @@ infinite b w h = sym (ap (toBits binary32) h ∙ toBits-inf (leb (2 ^ 63) b) ∙
 -- at the threshold or past it, an infinity too
 pub bits-inf : (b : ℕ) → b < 2 ^ 64 → 0x47ef_ffff_f000_0000 ≤ b % 2 ^ 63 → T (not (isNan (ofBits binary64 b))) → b / 2 ^ 63 * 2 ^ 31 + 0x7f80_0000 ≡ toBits binary32 (clause (ofBits binary64 b))
 bits-inf b w h n = elim (here-or-on (b % 2 ^ 63 / 2 ^ 52) 2047) [
-  | inl a ↦ infinite b w (by-fields b a ∙ rounded-inf s (significand binary64 e t) (past-threshold e t (mod-lt b (pow-pos 52)) (subst (λ (z : ℕ). 0x47ef_ffff_f000_0000 ≤ z) (fields b) h)))
+  | inl a ↦ infinite b w (by-fields b a ∙ ties-to-even-inf s (significand binary64 e t) (past-threshold e t (mod-lt b (pow-pos 52)) (subst (λ (z : ℕ). 0x47ef_ffff_f000_0000 ≤ z) (fields b) h)))
   | inr a ↦ infinite b w (ap clause (ofBits-is binary64 b ∙ fields-inf binary64 s e t (ones b a) (subst (λ (v : Float). T (not (isNan v))) (ofBits-is binary64 b) n)) ∙ clause-inf s)
 ]
   where

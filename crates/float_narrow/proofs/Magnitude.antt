@@ -17,7 +17,7 @@ use Rattle.float_bits.specs.Steps.{significand}
 use Rattle.float_bits.proofs.Laws.{finite-bits, nearest-lt}
 use Rattle.float_narrow.specs.Steps.{Magnitude}
 use Rattle.float_narrow.proofs.Laws.{regroup, size-at, round-at}
-use Rattle.float_narrow.proofs.Clause.{rounded-is, Threshold}
+use Rattle.float_narrow.proofs.Clause.{ties-to-even-is, Threshold}
 
 -- ---- below the threshold
 deep : (k r : ℕ) → 2 ^ 23 ≤ r → k * 2 ^ 23 + r < 0x7f80_0000 → k ≤ 253
@@ -60,7 +60,7 @@ closest-zero n u h =
 -- ---- the four cases of the exponent's field
 -- below half the smallest value
 pub mag-zero : (e t : ℕ) → e < 872 → t < 2 ^ 52 → Magnitude e t 0
-mag-zero e t h l = record { small = zero-le; bits = λ s. ap (toBits binary32) (rounded-is s (significand binary64 e t)) ∙ at s (tiny e h) }
+mag-zero e t h l = record { small = zero-le; bits = λ s. ap (toBits binary32) (ties-to-even-is s (significand binary64 e t)) ∙ at s (tiny e h) }
   where
     tiny : (e : ℕ) → e < 872 → significand binary64 e t < 2 ^ 923
     tiny zero a = lt-of-lt-of-le l (lit≤ tt)
@@ -96,7 +96,7 @@ mag-sub zero t a h l = absurd (no a)
   where
     no : 872 ≤ 0 → ⊥
     no h = omega arith
-mag-sub (suc x) t a h l = record { small = le-trans low (lit≤ tt); bits = λ s. ap (toBits binary32) (rounded-is s ((2 ^ 52 + t) * 2 ^ x)) ∙ at s }
+mag-sub (suc x) t a h l = record { small = le-trans low (lit≤ tt); bits = λ s. ap (toBits binary32) (ties-to-even-is s ((2 ^ 52 + t) * 2 ^ x)) ∙ at s }
   where
     q : ℕ
     q = 2 ^ 52 + t
@@ -202,7 +202,7 @@ pub mag-fin : (e t : ℕ) → 897 ≤ e → t < 2 ^ 52 → e * 2 ^ 52 + t < 0x47
 mag-fin zero t a l m = absurd (no-897 a)
 mag-fin (suc x) t a l m = record {
   small = le-of-lt (fin-below (suc x) t l m);
-  bits = λ s. ap (toBits binary32) (rounded-is s ((2 ^ 52 + t) * 2 ^ x) ∙ normal-round s x t a l)
+  bits = λ s. ap (toBits binary32) (ties-to-even-is s ((2 ^ 52 + t) * 2 ^ x) ∙ normal-round s x t a l)
       ∙ finite-bits s (Top t) (suc x - 897) (top-hi t l) (not-below (Top t) (suc x - 897) (top-lo t)) (under (Top t) (suc x - 897) (top-lo t) (top-hi t l) (fin-below (suc x) t l m));
 }
 

@@ -9,7 +9,7 @@ use lib.Dec.{eqb, lit<}
 use lib.Ieee.{nearest}
 use lib.Ieee.Nearest.{closest}
 use Rattle.float_bits.proofs.Laws.{Cmp, cmp, nearest-lt, nearest-eq, nearest-gt}
-use Rattle.float_narrow.specs.Clause.{below, above, nearer, delivered}
+use Rattle.float_narrow.specs.Clause.{lower, upper, nearer, delivered}
 
 -- ---- the nearest of the two, by the distances and by twice the remainder
 clash : (a b : ℕ) → a < b → b ≤ a → ⊥
@@ -58,7 +58,7 @@ nearer-eq a b x y h = go (compare a b) (cmp a b)
 
 -- the distances are the remainder and what it lacks of u
 delivered-by : (v u : ℕ) → 0 < u → delivered v u ≡ nearer (compare (v % u) (u - v % u)) (v / u) (suc (v / u))
-unfolding delivered below above
+unfolding delivered lower upper
 delivered-by v u h =
     let w = v / u in
     let r = v % u in
@@ -82,11 +82,11 @@ under-is q u = rest q (q / u * u) (q % u) (div-add-mod' q u)
     rest : (q x r : ℕ) → x + r ≡ q → q - x ≡ r
     rest q x r h = omega arith
 
-pub below-nearer : (q u r : ℕ) → 0 < u → r ≡ q % u → r < u - r → q / u ≡ delivered q u
-below-nearer q u r U e h = sym (delivered-by q u U ∙ nearer-lt (q % u) (u - q % u) (q / u) (suc (q / u)) (subst (λ (z : ℕ). z < u - z) e h))
+pub lower-nearer : (q u r : ℕ) → 0 < u → r ≡ q % u → r < u - r → q / u ≡ delivered q u
+lower-nearer q u r U e h = sym (delivered-by q u U ∙ nearer-lt (q % u) (u - q % u) (q / u) (suc (q / u)) (subst (λ (z : ℕ). z < u - z) e h))
 
-pub above-nearer : (q u r : ℕ) → 0 < u → r ≡ q % u → u - r < r → q / u + 1 ≡ delivered q u
-above-nearer q u r U e h = sym (delivered-by q u U ∙ nearer-gt (q % u) (u - q % u) (q / u) (suc (q / u)) (subst (λ (z : ℕ). u - z < z) e h) ∙ sym (add-one (q / u)))
+pub upper-nearer : (q u r : ℕ) → 0 < u → r ≡ q % u → u - r < r → q / u + 1 ≡ delivered q u
+upper-nearer q u r U e h = sym (delivered-by q u U ∙ nearer-gt (q % u) (u - q % u) (q / u) (suc (q / u)) (subst (λ (z : ℕ). u - z < z) e h) ∙ sym (add-one (q / u)))
 
 equally-near : (q u r : ℕ) → 0 < u → r ≡ q % u → u - r ≤ r → r ≤ u - r → delivered q u ≡ q / u + q / u % 2
 equally-near q u r U e h l =

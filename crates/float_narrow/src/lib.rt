@@ -8,7 +8,7 @@ ghost use Rattle.float_narrow.specs.Narrow.{narrow};
 ghost use Rattle.float_narrow.specs.Clause.{clause, delivered};
 ghost use Rattle.float_narrow.specs.Steps.{Magnitude};
 
-// How many of u lie nearest to q.
+// How many units u are nearest to q.
 fn nearest(q: u64, u: u64) -> u64
     requires { ⌜ 0 < u ⌝ }
     requires { ⌜ u ≤ 2 ^ 62 ⌝ }
@@ -16,20 +16,20 @@ fn nearest(q: u64, u: u64) -> u64
     ensures { λ r. ⌜ r ≡ delivered q u ⌝ }
 {
     // "the two nearest floating-point numbers bracketing" it lie u apart, one so far under it, the other so far over it
-    let below = q / u;
-    let above = below + 1;
-    let under = q - below * u;
+    let lower = q / u;
+    let upper = lower + 1;
+    let under = q - lower * u;
     let over = u - under;
     // "the floating-point number nearest to the infinitely precise result shall be delivered"
     if under < over {
-        below
+        lower
     } else if over < under {
-        above
-    } else if below % 2 == 0 {
+        upper
+    } else if lower % 2 == 0 {
         // "equally near": "the one with an even least significant digit"
-        below
+        lower
     } else {
-        above
+        upper
     }
 }
 
@@ -43,7 +43,7 @@ fn nearest_number(e: u64, t: u64) -> u64
     // so many of 2 ^ (e - 1075); where e is 0 no digit leads, but none is left then
     let q = 0x10_0000_0000_0000 + t;
     if e < 897 {
-        // the last digit has the least exponent: so many lie beyond it, and where 54 do none is left
+        // the last digit has the least exponent: so many lie beyond it, and from 54 on none is left
         let beyond = 926 - e;
         if 54 < beyond {
             return 0;

@@ -2,15 +2,15 @@ use borrow.Author.Needs.{needs}
 use Prim.Native.Nat.{_-_, _*_, _/_}
 use native.Mathlib.Nat.{div-le-self, div-mul-le-self, mod-lt}
 use native.Mathlib.Omega.{arith}
-use Rattle.float_narrow.proofs.Nearer.{under-is, below-nearer, above-nearer, even-near, odd-near}
+use Rattle.float_narrow.proofs.Nearer.{under-is, lower-nearer, upper-nearer, even-near, odd-near}
 use Rattle.float_narrow.proofs.nearest.Statement.{statement}
 use Rattle.float_narrow.proofs.nearest.Tie as tie
 
-div-below : tie.Need-div-below
-div-below c = search needs
+div-lower : tie.Need-div-lower
+div-lower c = search needs
 
-add-above : tie.Need-add-above
-add-above c = omega (arith, div-le-self (c .args .q) (c .args .u))
+add-upper : tie.Need-add-upper
+add-upper c = omega (arith, div-le-self (c .args .q) (c .args .u))
 
 mul-under : tie.Need-mul-under
 mul-under c = omega (arith, div-mul-le-self (c .args .q) (c .args .u))
@@ -25,13 +25,13 @@ returns : tie.Need-returns
 returns c =
     let q = c .before .args .q in
     let u = c .before .args .u in
-    below-nearer q u (q - q / u * u) (c .before .pre .0) (under-is q u) (c .if1 .taken)
+    lower-nearer q u (q - q / u * u) (c .before .pre .0) (under-is q u) (c .if1 .taken)
 
 returns-2 : tie.Need-returns-2
 returns-2 c =
     let q = c .before .before .args .q in
     let u = c .before .before .args .u in
-    above-nearer q u (q - q / u * u) (c .before .before .pre .0) (under-is q u) (c .if2 .taken)
+    upper-nearer q u (q - q / u * u) (c .before .before .pre .0) (under-is q u) (c .if2 .taken)
 
 returns-3 : tie.Need-returns-3
 returns-3 c =
@@ -51,8 +51,8 @@ pub nearest-spec : {M : Type 1} → statement M
 nearest-spec =
     tie.close
     (tie.spec
-    div-below
-    add-above
+    div-lower
+    add-upper
     mul-under
     sub-under
     sub-over
