@@ -1,5 +1,5 @@
-// This repository's rounding from f64 to f32 beside `as f32`: the same words, NaN matching NaN, and the
-// time of both.
+// This repository's rounding from f64 to f32 beside `as f32`: the same words, NaN matching NaN (`words`,
+// `all`), or the time of both (`times`).
 
 use std::hint::black_box;
 use std::time::Instant;
@@ -141,26 +141,22 @@ fn once(f: impl Fn(f64) -> f32, values: &[f64], out: &mut [f32]) -> f64 {
     begin.elapsed().as_nanos() as f64 / values.len() as f64
 }
 
-/// The least times of many, taken in turn.
+/// The least times of many, taken in turn: ours, the Rust's, another checkout's.
 fn times(name: &str, values: &[f64]) {
     let mut out = vec![0f32; values.len()];
     let mut best = [f64::INFINITY; 3];
-    for _ in 0..20_000 {
+    for _ in 0..5_000 {
         best[0] = best[0].min(once(|x| unsafe { leaf_f64_to_f32(x) }, values, &mut out));
+        best[1] = best[1].min(once(|x| x as f32, values, &mut out));
         #[cfg(other)]
-        let other = once(|x| unsafe { other_f64_to_f32(x) }, values, &mut out);
-        #[cfg(other)]
-        (best[1] = best[1].min(other));
-        best[2] = best[2].min(once(|x| x as f32, values, &mut out));
+        (best[2] = best[2].min(once(|x| unsafe { other_f64_to_f32(x) }, values, &mut out)));
     }
-    print!("{name}: {:.2} ns a value", best[0]);
-    #[cfg(other)]
-    print!(", the other's {:.2}, {:.2} times as fast", best[1], best[1] / best[0]);
-    println!(", as f32 {:.2}", best[2]);
+    let seen = best.iter().filter(|t| t.is_finite()).map(|t| format!("{t:.3}"));
+    println!("{name}: {}", seen.collect::<Vec<_>>().join(" "));
 }
 
 fn main() {
-    let all = std::env::args().nth(1).is_some();
+    let what = std::env::args().nth(1).expect("one of: words, all, times");
     let mut state = 1u64;
     // xorshift64
     let mut random = move || {
@@ -169,16 +165,17 @@ fn main() {
         state ^= state << 17;
         state
     };
-    let kinds = [ties(all, &mut random), edges(), nans(), drawn(&mut random)];
+    if what == "times" {
+        let mut values = |scale: f64| -> Vec<f64> {
+            (0..1024).map(|_| (random() as f64 / 2f64.powi(64) - 0.5) * scale).collect()
+        };
+        times("ordinary values", &values(1e4));
+        times("subnormal results", &values(1e-41));
+        times("any bits", &(0..1024).map(|_| f64::from_bits(random())).collect::<Vec<_>>());
+        return;
+    }
+    let kinds = [ties(what == "all", &mut random), edges(), nans(), drawn(&mut random)];
     let (asked, unlike) = kinds.iter().fold((0, 0), |(a, u), k| (a + k.asked, u + k.unlike));
     println!("{asked} words, {unlike} unlike");
-    let mut values = |scale: f64| -> Vec<f64> {
-        (0..1024).map(|_| (random() as f64 / 2f64.powi(64) - 0.5) * scale).collect()
-    };
-    let (ordinary, small) = (values(1e4), values(1e-41));
-    let any: Vec<f64> = (0..1024).map(|_| f64::from_bits(random())).collect();
-    times("ordinary values", &ordinary);
-    times("subnormal results", &small);
-    times("any bits", &any);
     std::process::exit((unlike > 0) as i32);
 }

@@ -10,7 +10,8 @@ use lib.Dec.{T, leb, ltb, eqb, leb→le, nleb→lt, le→leb, lit≤, lit<}
 use lib.Pow.{pow-add, pow-pos, pow-mono, shl-lt, shr-lt, shl-shr}
 use lib.IntN.{ℤ, pos, negsuc}
 use lib.Count.{trailingZeros}
-use lib.Ieee.{Float, nan, inf, fin, binary32, binary64, up, down, minus, size, odd, units, round, fits}
+use lib.Ieee.{Float, nan, inf, fin, binary32, binary64, up, down, minus, size, odd, units, round, fits, ofBits, toBits}
+use lib.Ieee.Bits.{ofBits-fits}
 use lib.Ieee.Digits.{size-lt, size-reaches, size-le}
 use lib.Ieee.Nearest.{closest, closest-mono, nearest-ge}
 use lib.Ieee.Fits.{nearest-le, and-l, and-r, down-pos}
@@ -256,6 +257,10 @@ unfolding clause narrow
 clause-narrow nan h = refl
 clause-narrow (inf s) h = refl
 clause-narrow (fin s m e) h = ties-to-even-is s (exact m e) ∙ sym (narrow-val (fin s m e) s (exact m e) (exact-val s m e h))
+
+-- the same of every 64-bit word, a NaN's too
+pub clause-word : (b : ℕ) → toBits binary32 (clause (ofBits binary64 b)) ≡ toBits binary32 (narrow (ofBits binary64 b))
+clause-word b = ap (toBits binary32) (clause-narrow (ofBits binary64 b) (ofBits-fits binary64 b))
 
 -- ---- the clause by the value
 pub clause-val : (x : Float) (s : Bool) (a : ℕ) → T (fits binary64 x) → HasValue x s a (2 ^ 1074) → clause x ≡ roundTiesToEven s a
