@@ -20,7 +20,7 @@ use lib.Ieee.Scale.{round-same}
 use Rattle.float_bits.proofs.Laws.{here-or-on, pow-lt-back}
 use Rattle.float_narrow.specs.Narrow.{narrow}
 use Rattle.float_narrow.specs.Clause.{exact, overflows, lastDigit, delivered, roundTiesToEven, clause}
-use Rattle.float_narrow.proofs.Laws.{size-at, round-at, units-inf, units-fin}
+use Rattle.float_narrow.proofs.Laws.{regroup-two, size-at, round-at, units-inf, units-fin}
 use Rattle.float_narrow.proofs.Nearer.{delivered-is}
 
 -- ---- the last digit
@@ -182,11 +182,6 @@ odd-shift s (suc q) k =
     ap (λ (e : ℤ). fin s (suc q / 2 ^ t) e) (ap (λ (a : ℕ). minus a 1074) (add-assoc 925 k t) ∙ minus-shift (k + t))
 
 -- ---- the whole of it
-same-units : (v k : ℕ) → v * 2 ^ 149 * 2 ^ (925 + k) ≡ v * (2 ^ 1074 * 2 ^ k)
-same-units v k =
-    mul-assoc v (2 ^ 149) (2 ^ (925 + k))
-    ∙ ap (λ (z : ℕ). v * z) (sym (pow-add 2 149 (925 + k)) ∙ ap (λ (z : ℕ). 2 ^ z) (sym (add-assoc 149 925 k)) ∙ pow-add 2 1074 k)
-
 pub ties-to-even-is : (s : Bool) (v : ℕ) → roundTiesToEven s v ≡ round binary32 s v (2 ^ 1074)
 unfolding roundTiesToEven
 ties-to-even-is s v =
@@ -195,7 +190,7 @@ ties-to-even-is s v =
     ap (λ (d : ℕ). cond (overflows v) (inf s) (odd 25 s (delivered v (2 ^ d)) d 1074)) (last-digit v)
     ∙ ap (λ (q : ℕ). cond (overflows v) (inf s) (odd 25 s q (925 + k) 1074)) (delivered-is v u (pow-pos (925 + k)))
     ∙ go (overflows v) (at-least v) (less-than v)
-    ∙ sym (round-at s v k v u (pow-pos (925 + k)) (dropped v) (same-units v k))
+    ∙ sym (round-at s v k v u (pow-pos (925 + k)) (dropped v) (regroup-two v 149 1074 k (925 + k) (sym (add-assoc 149 925 k))))
   where
     go : (b : Bool) → (T b → Threshold ≤ v) → (T (not b) → v < Threshold) → cond b (inf s) (odd 25 s (closest v (Unit v)) (925 + Dropped v) 1074) ≡ units binary32 s (closest v (Unit v)) (Dropped v)
     go true p q = sym (units-inf s (closest v (Unit v)) (Dropped v) (past v (p tt)))
@@ -223,7 +218,7 @@ exact-down : (m : ℕ) (e : ℤ) → 2 ^ 1074 / down e * down e ≡ 2 ^ 1074 →
 unfolding exact
 exact-down m e h = sym (mul-assoc (m * up e) (2 ^ 1074 / down e) (down e) ∙ ap (λ (z : ℕ). m * up e * z) h)
 
-pub exact-val : (s : Bool) (m : ℕ) (e : ℤ) → T (fits binary64 (fin s m e)) → HasValue (fin s m e) s (exact m e) (2 ^ 1074)
+exact-val : (s : Bool) (m : ℕ) (e : ℤ) → T (fits binary64 (fin s m e)) → HasValue (fin s m e) s (exact m e) (2 ^ 1074)
 unfolding fits exact
 exact-val s zero e h = (refl, nothing)
   where
@@ -244,7 +239,7 @@ exact-val s (suc m) (negsuc k) h = (refl, exact-down (suc m) (negsuc k) (whole k
     least-digit = and-r odd-few (leb (2 ^ suc k) (2 ^ 1074)) (and-l (odd-few && leb (2 ^ suc k) (2 ^ 1074)) (ltb (suc m * 1) (2 ^ 1024 * 2 ^ suc k)) h)
 
 -- ---- narrow by the value
-pub narrow-val : (x : Float) (s : Bool) (a : ℕ) → HasValue x s a (2 ^ 1074) → narrow x ≡ round binary32 s a (2 ^ 1074)
+narrow-val : (x : Float) (s : Bool) (a : ℕ) → HasValue x s a (2 ^ 1074) → narrow x ≡ round binary32 s a (2 ^ 1074)
 unfolding narrow
 narrow-val nan s a h = absurd h
 narrow-val (inf t) s a h = absurd h

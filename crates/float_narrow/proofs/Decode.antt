@@ -52,7 +52,7 @@ sign-bit b h = go (leb (2 ^ 63) b) (leb→le (2 ^ 63) b) (nleb→lt (2 ^ 63) b)
     go false p q = clear (q tt)
 
 -- the two fields of the bits without the sign's
-pub fields : (b : ℕ) → b % 2 ^ 63 ≡ b % 2 ^ 63 / 2 ^ 52 * 2 ^ 52 + b % 2 ^ 52
+fields : (b : ℕ) → b % 2 ^ 63 ≡ b % 2 ^ 63 / 2 ^ 52 * 2 ^ 52 + b % 2 ^ 52
 fields b = sym (ap (λ (z : ℕ). b % 2 ^ 63 / 2 ^ 52 * 2 ^ 52 + z) (sym (mod-mod-pow b 11 52)) ∙ split (b % 2 ^ 63) 52)
 
 by-fields : (b : ℕ) → b % 2 ^ 63 / 2 ^ 52 < 2047 → clause (ofBits binary64 b) ≡ roundTiesToEven (leb (2 ^ 63) b) (significand binary64 (b % 2 ^ 63 / 2 ^ 52) (b % 2 ^ 52))

@@ -12,11 +12,13 @@ use lib.Ieee.Nearest.{closest, closest-same}
 use Rattle.float_bits.proofs.Laws.{size-exact}
 
 -- ---- sizes
-pub regroup : (q x a b k : ℕ) (sh : ℕ) → x + a + sh ≡ b + k → q * 2 ^ x * 2 ^ a * 2 ^ sh ≡ q * (2 ^ b * 2 ^ k)
+pub regroup-two : (q x b k sh : ℕ) → x + sh ≡ b + k → q * 2 ^ x * 2 ^ sh ≡ q * (2 ^ b * 2 ^ k)
+regroup-two q x b k sh e = mul-assoc q (2 ^ x) (2 ^ sh) ∙ ap (λ (z : ℕ). q * z) (sym (pow-add 2 x sh) ∙ ap (λ (z : ℕ). 2 ^ z) e ∙ pow-add 2 b k)
+
+pub regroup : (q x a b k sh : ℕ) → x + a + sh ≡ b + k → q * 2 ^ x * 2 ^ a * 2 ^ sh ≡ q * (2 ^ b * 2 ^ k)
 regroup q x a b k sh e =
     ap (λ (z : ℕ). z * 2 ^ sh) (mul-assoc q (2 ^ x) (2 ^ a) ∙ ap (λ (z : ℕ). q * z) (sym (pow-add 2 x a)))
-    ∙ mul-assoc q (2 ^ (x + a)) (2 ^ sh)
-    ∙ ap (λ (z : ℕ). q * z) (sym (pow-add 2 (x + a) sh) ∙ ap (λ (z : ℕ). 2 ^ z) e ∙ pow-add 2 b k)
+    ∙ regroup-two q (x + a) b k sh e
 
 -- q of p + 1 digits, times 2 ^ (x + a - b), has j + 1
 pub size-at : (q x a b p j : ℕ) → 2 ^ p ≤ q → q < 2 ^ suc p → p + x + a ≡ j + b → suc p + x + a ≡ suc j + b → size (q * 2 ^ x * 2 ^ a / 2 ^ b) ≡ suc j

@@ -45,9 +45,6 @@ lead-hi t h = omega arith
 few-digits : (z : ℕ) → z ≤ 24 → z - 24 ≡ 0
 few-digits z h = omega arith
 
-sum-le : (a b c d : ℕ) → a + b + c ≤ d → 2 ^ (a + b + c) ≤ 2 ^ d
-sum-le a b c d h = pow-mono h
-
 half : (n u : ℕ) → n * 2 < u → n < u
 half n u h = omega arith
 
@@ -57,8 +54,8 @@ closest-zero n u h =
     ∙ ap (λ (z : ℕ). nearest 0 (compare (z * 2) u)) (mod-eq-of-lt (half n u h))
     ∙ nearest-lt 0 (n * 2) u h
 
--- ---- the four cases of the exponent's field
--- below half the smallest value
+-- ---- the three cases of the exponent's field
+-- so far below the least exponent that no digit is left
 pub mag-zero : (e t : ℕ) → e < 872 → t < 2 ^ 52 → Magnitude e t 0
 mag-zero e t h l = record { small = zero-le; bits = λ s. ap (toBits binary32) (ties-to-even-is s (significand binary64 e t)) ∙ at s (tiny e h) }
   where
@@ -91,6 +88,7 @@ sh-few x h = omega arith
 wide : (r : ℕ) → r ≤ 2 ^ 23 → r ≤ 2 ^ 24
 wide r h = omega arith
 
+-- the last digit at the least exponent
 pub mag-sub : (e t : ℕ) → 872 ≤ e → e < 897 → t < 2 ^ 52 → Magnitude e t (closest (2 ^ 52 + t) (2 ^ (926 - e)))
 mag-sub zero t a h l = absurd (no a)
   where
@@ -98,12 +96,6 @@ mag-sub zero t a h l = absurd (no a)
     no h = omega arith
 mag-sub (suc x) t a h l = record { small = le-trans low (lit≤ tt); bits = λ s. ap (toBits binary32) (ties-to-even-is s ((2 ^ 52 + t) * 2 ^ x)) ∙ at s }
   where
-    q : ℕ
-    q = 2 ^ 52 + t
-
-    r : ℕ
-    r = closest (2 ^ 52 + t) (2 ^ (926 - suc x))
-
     low : closest (2 ^ 52 + t) (2 ^ (926 - suc x)) ≤ 2 ^ 23
     low =
         le-trans (nearest-le ((2 ^ 52 + t) / 2 ^ (926 - suc x)) (compare ((2 ^ 52 + t) % 2 ^ (926 - suc x) * 2) (2 ^ (926 - suc x))))
@@ -123,7 +115,7 @@ mag-sub (suc x) t a h l = record { small = le-trans low (lit≤ tt); bits = λ s
         ∙ finite-bits s (closest (2 ^ 52 + t) (2 ^ (926 - suc x))) 0 (wide (closest (2 ^ 52 + t) (2 ^ (926 - suc x))) low) (λ _. refl) (small277 (closest (2 ^ 52 + t) (2 ^ (926 - suc x))) low)
         ∙ ap (λ (z : ℕ). cond s (2 ^ 31) 0 + z) (zero-add (closest (2 ^ 52 + t) (2 ^ (926 - suc x))))
 
--- normal values
+-- 24 digits
 abbrev Top : ℕ → ℕ
 Top t = closest (2 ^ 52 + t) (2 ^ 29)
 

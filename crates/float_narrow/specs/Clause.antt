@@ -37,7 +37,8 @@ unfoldable pub delivered : ℕ → ℕ → ℕ
 unfolding lower upper nearer
 delivered v unit = nearer (compare (v - lower v unit * unit) (upper v unit * unit - v)) (lower v unit) (upper v unit)
 
--- "Shall round to infinity with no change in sign", or what is delivered. A zero is a number like any other, and keeps its sign.
+-- "Shall round to infinity with no change in sign", or what is delivered, which has 25 digits at most: `odd` writes a number in the kit's one way.
+-- A zero is a number like any other, and keeps its sign.
 unfoldable pub roundTiesToEven : Bool → ℕ → Float
 unfolding overflows lastDigit delivered odd
 roundTiesToEven s v = cond (overflows v) (inf s) (odd 25 s (delivered v (2 ^ lastDigit v)) (lastDigit v) 1074)

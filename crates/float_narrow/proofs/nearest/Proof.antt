@@ -25,27 +25,27 @@ returns : tie.Need-returns
 returns c =
     let q = c .before .args .q in
     let u = c .before .args .u in
-    lower-nearer q u (q - q / u * u) (c .before .pre .0) (under-is q u) (c .if1 .taken)
+    lower-nearer q u (q - q / u * u) (under-is q u) (c .if1 .taken)
 
 returns-2 : tie.Need-returns-2
 returns-2 c =
     let q = c .before .before .args .q in
     let u = c .before .before .args .u in
-    upper-nearer q u (q - q / u * u) (c .before .before .pre .0) (under-is q u) (c .if2 .taken)
+    upper-nearer q u (q - q / u * u) (under-is q u) (c .if2 .taken)
 
 returns-3 : tie.Need-returns-3
 returns-3 c =
     let s = c .before .before .before in
     let q = s .args .q in
     let u = s .args .u in
-    even-near q u (q - q / u * u) (s .pre .0) (under-is q u) (c .before .before .if1 .left) (c .before .if2 .left) (c .if3 .taken)
+    even-near q u (q - q / u * u) (under-is q u) (c .before .before .if1 .left) (c .before .if2 .left) (c .if3 .taken)
 
 returns-4 : tie.Need-returns-4
 returns-4 c =
     let s = c .before .before .before in
     let q = s .args .q in
     let u = s .args .u in
-    odd-near q u (q - q / u * u) (s .pre .0) (under-is q u) (c .before .before .if1 .left) (c .before .if2 .left) (c .if3 .left)
+    odd-near q u (q - q / u * u) (under-is q u) (c .before .before .if1 .left) (c .before .if2 .left) (c .if3 .left)
 
 pub nearest-spec : {M : Type 1} → statement M
 nearest-spec =
