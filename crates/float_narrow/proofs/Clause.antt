@@ -38,6 +38,9 @@ last-digit v = sym (sub-add-eq-max 925 (size v - 24)) ∙ both (size v)
     both : (z : ℕ) → 925 - (z - 24) + (z - 24) ≡ 925 + (z - 949)
     both z = omega arith
 
+before-last : (z b : ℕ) → b < z → z - 1 < z
+before-last z b h = omega arith
+
 dropped : (v : ℕ) → size (v * 2 ^ 149 / 2 ^ 1074) - 24 ≡ Dropped v
 dropped v = elim (here-or-on (size v) 950) [
   | inl a ↦ none (size (v * 2 ^ 149 / 2 ^ 1074)) (size v)
@@ -45,7 +48,7 @@ dropped v = elim (here-or-on (size v) 950) [
   | inr a ↦ some (size (v * 2 ^ 149 / 2 ^ 1074)) (size v) a
       (subst (λ (z : ℕ). size (z / 2 ^ 1074) ≡ suc (size v - 1 - 925)) (mul-one (v * 2 ^ 149))
       (size-at v 149 0 1074 (size v - 1) (size v - 1 - 925)
-      (size-reaches v (size v - 1) (last (size v) a)) (subst (λ (z : ℕ). v < 2 ^ z) (sym (again (size v) a)) (size-lt v)) (fall (size v) a) (fall' (size v) a)))
+      (size-reaches v (size v - 1) (before-last (size v) 949 a)) (subst (λ (z : ℕ). v < 2 ^ z) (sym (again (size v) a)) (size-lt v)) (fall (size v) a) (fall' (size v) a)))
 ]
   where
     most : (z : ℕ) → z < 950 → z ≤ 949
@@ -56,9 +59,6 @@ dropped v = elim (here-or-on (size v) 950) [
 
     some : (w z : ℕ) → 950 ≤ z → w ≡ suc (z - 1 - 925) → w - 24 ≡ z - 949
     some w z h e = omega arith
-
-    last : (z : ℕ) → 950 ≤ z → z - 1 < z
-    last z h = omega arith
 
     again : (z : ℕ) → 950 ≤ z → suc (z - 1) ≡ z
     again z h = omega arith
@@ -94,16 +94,13 @@ past v h = elim (here-or-on (size v) 1203) [
   | inr a ↦ mul-le-mul
       (le-trans
       (le-div-iff-mul-le (pow-pos (925 + Dropped v)) .1
-      (subst (λ (z : ℕ). z ≤ v) (ap (λ (z : ℕ). 2 ^ z) (lead (size v) a) ∙ pow-add 2 23 (925 + Dropped v)) (size-reaches v (size v - 1) (last (size v) a))))
+      (subst (λ (z : ℕ). z ≤ v) (ap (λ (z : ℕ). 2 ^ z) (lead (size v) a) ∙ pow-add 2 23 (925 + Dropped v)) (size-reaches v (size v - 1) (before-last (size v) 1202 a))))
       (nearest-ge (v / Unit v) (compare (v % Unit v * 2) (Unit v))))
       (pow-mono (many (size v) a))
 ]
   where
     only : (z : ℕ) → z < 1203 → 1201 < z → z - 949 ≡ 253
     only z h l = omega arith
-
-    last : (z : ℕ) → 1203 ≤ z → z - 1 < z
-    last z h = omega arith
 
     lead : (z : ℕ) → 1203 ≤ z → z - 1 ≡ 23 + (925 + (z - 949))
     lead z h = omega arith

@@ -27,7 +27,7 @@ unfolding lower
 upper v unit = suc (lower v unit)
 
 -- "The floating-point number nearest to the infinitely precise result shall be delivered": the distances say which.
--- "If the two are equally near, the one with an even least significant digit shall be delivered."
+-- "If the two ... are equally near, the one with an even least significant digit shall be delivered."
 unfoldable pub nearer : Ordering → ℕ → ℕ → ℕ
 nearer Ordering·lt a b = a
 nearer Ordering·gt a b = b
