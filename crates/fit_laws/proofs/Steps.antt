@@ -16,13 +16,14 @@ use Rattle.band_quant.specs.Draw.{draw, draws, draw-word}
 use Rattle.history.specs.History.{half, overlap, channel, Tail, Tails, withTails}
 use Rattle.celt_window.specs.Window.{window}
 use Rattle.post_filter.specs.declared.Filter.{Filter}
-use Rattle.prefilter.specs.Comb.{combAt, combFilterTo, tapGain, skips, preFiltered}
+use Rattle.comb_filter.specs.Comb.{combAt, combFilterTo, tapGain}
+use Rattle.prefilter.specs.Prefilter.{skips, preFiltered}
 use Rattle.plc_lpc.specs.Lpc.{Lpc, crossed, reflection, lpcWith, lpcTurn, lpcTo, celtLpc}
 use Rattle.plc_iir.specs.Iir.{iirAt, iirTo, celtIir}
 use Rattle.excitation.specs.Cycle.{repeatedCycle}
 use Rattle.energy_guard.specs.Guard.{muted, backScale, guardedAt, guarded}
 use Rattle.extrapolate.specs.Extrapolate.{order, recent, excitation, fade, fadedCycle, extrapolated}
-use Rattle.fold.specs.Roll.{rolled}
+use Rattle.roll.specs.Roll.{rolled}
 use Rattle.fold.specs.Fold.{foldAt, folded}
 use Rattle.pitch_fit.specs.Fit.{pitchFit}
 use Rattle.pitch_predictor.specs.Predictor.{fittedTo}

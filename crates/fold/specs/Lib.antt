@@ -1,3 +1,2 @@
--- What a frame leaves of a channel's newest samples and of the overlap behind them.
-pub mod Roll
+-- What follows a frame, folded into the overlap.
 pub mod Fold

@@ -13,8 +13,8 @@ use Rattle.celt_window.specs.Window.{window}
 use Rattle.history.proofs.Parts.{slice-take, TailSized}
 use Rattle.history.specs.History.{half, overlap, Tail, tailList, tailOf}
 use Rattle.post_filter.specs.declared.Filter.{Filter}
-use Rattle.prefilter.specs.Comb.{skips, preFiltered, preFilteredEnd}
-use Rattle.fold.specs.Roll.{movedBack, rolled, length-rolled}
+use Rattle.prefilter.specs.Prefilter.{skips, preFiltered, preFilteredEnd}
+use Rattle.roll.specs.Roll.{movedBack, rolled, length-rolled}
 use Rattle.fold.specs.Fold.{folded, length-folded}
 use Rattle.extrapolate.specs.Extrapolate.{extrapolated, length-extrapolated}
 use Rattle.take_in.specs.TakeIn.{extra, tailAfter}

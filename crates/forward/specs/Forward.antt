@@ -9,10 +9,11 @@ use Rattle.loops.specs.Fold.{foldTo}
 use Rattle.loops.specs.Part.{put}
 use Rattle.celt_window.specs.Window.{window}
 use Rattle.history.specs.History.{half, overlap, Tail, tailList, tailOf}
-use Rattle.prefilter.specs.Comb.{pairAt, skips, preFilteredEnd}
+use Rattle.comb_filter.specs.Comb.{pairAt}
+use Rattle.prefilter.specs.Prefilter.{skips, preFilteredEnd}
 use Rattle.post_filter.specs.Gains.{combGains}
 use Rattle.post_filter.specs.declared.Filter.{Filter}
-use Rattle.fold.specs.Roll.{movedBack}
+use Rattle.roll.specs.Roll.{movedBack}
 use Rattle.fold.specs.Fold.{folded}
 use Rattle.extrapolate.specs.Extrapolate.{extrapolated}
 use Rattle.take_in.specs.TakeIn.{extra}

@@ -1,5 +1,5 @@
 -- A history taken apart and put together.
-use mathlib.Core.Path.{_≡_, ap, ap₂, sym, _∙_}
+use mathlib.Core.Path.{_≡_, refl, ap, ap₂, sym, _∙_}
 use mathlib.Core.Bool.{Bool}
 use mathlib.Core.List.{List, [], _∷_, _++_, append-assoc, append-nil}
 use Prim.Native.Nat.{ℕ, _+_, _-_, _≤_}
@@ -139,35 +139,29 @@ module _ (h : List Float) (t : Tails) (l : length h ≡ whole) (z : Sized t) whe
   old-two : length (slice 2168 3192 h) ≡ half
   old-two = length-slice 2168 3192 h (omega arith)
 
-  pub with-length : length (withTails h t) ≡ whole
+  parts-with : withTails h t
+      ≡ glued (take half h) (t .first .new) (t .first .over) (slice 2168 3192 h) (t .second .new) (t .second .over) old (z .first .new) (z .first .over) old-two
+      (z .second .new) (z .second .over)
   unfolding withTails glued
-  with-length = glued-length (take 1024 h) (t .first .new) (t .first .over) (slice 2168 3192 h) (t .second .new) (t .second .over)
-      old (z .first .new) (z .first .over) old-two (z .second .new) (z .second .over)
+  parts-with = refl
+
+  pub with-length : length (withTails h t) ≡ whole
+  with-length = ap length parts-with ∙ glued-length _ _ _ _ _ _ _ _ _ _ _ _
 
   pub tails-with : tails (withTails h t) ≡ t
-  unfolding withTails tails glued tailAt
+  unfolding tails tailAt
   tails-with =
-      let a = take 1024 h in
-      let b = slice 2168 3192 h in
-      let n = t .first .new in
-      let v = t .first .over in
-      let m = t .second .new in
-      let w = t .second .over in
-      let p = glued-new a n v b m w old (z .first .new) (z .first .over) old-two (z .second .new) (z .second .over) in
-      let q = glued-over a n v b m w old (z .first .new) (z .first .over) old-two (z .second .new) (z .second .over) in
-      let r = glued-new-two a n v b m w old (z .first .new) (z .first .over) old-two (z .second .new) (z .second .over) in
-      let s = glued-over-two a n v b m w old (z .first .new) (z .first .over) old-two (z .second .new) (z .second .over) in
+      let p = ap (slice 1024 2048) parts-with ∙ glued-new _ _ _ _ _ _ _ _ _ _ _ _ in
+      let q = ap (slice 2048 2168) parts-with ∙ glued-over _ _ _ _ _ _ _ _ _ _ _ _ in
+      let r = ap (slice 3192 4216) parts-with ∙ glued-new-two _ _ _ _ _ _ _ _ _ _ _ _ in
+      let s = ap (slice 4216 4336) parts-with ∙ glued-over-two _ _ _ _ _ _ _ _ _ _ _ _ in
       λ i. record { first = record { new = p i; over = q i }; second = record { new = r i; over = s i } }
 
   first-kept : take half (withTails h t) ≡ take half h
-  unfolding withTails glued
-  first-kept = glued-old (take 1024 h) (t .first .new) (t .first .over) (slice 2168 3192 h) (t .second .new) (t .second .over)
-      old (z .first .new) (z .first .over) old-two (z .second .new) (z .second .over)
+  first-kept = ap (take half) parts-with ∙ glued-old _ _ _ _ _ _ _ _ _ _ _ _
 
   second-kept : slice 2168 3192 (withTails h t) ≡ slice 2168 3192 h
-  unfolding withTails glued
-  second-kept = glued-old-two (take 1024 h) (t .first .new) (t .first .over) (slice 2168 3192 h) (t .second .new) (t .second .over)
-      old (z .first .new) (z .first .over) old-two (z .second .new) (z .second .over)
+  second-kept = ap (slice 2168 3192) parts-with ∙ glued-old-two _ _ _ _ _ _ _ _ _ _ _ _
 
   -- each channel's oldest stay
   pub oldest-with : oldest (withTails h t) ≡ oldest h

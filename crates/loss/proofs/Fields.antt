@@ -27,14 +27,18 @@ module _ (s : State) (h : List Float) where
   unfolding made pitchMade
   made-undrawn e = rw e (refl, refl)
 
+  pitch-lag : pitchMade s h .lag ≡ cond (searches s) (lagOf (stereo (s .settings)) h) (s .lag)
+  unfolding pitchMade
+  pitch-lag = refl
+
   -- lag and predictor: worked out where a pitch loss is the first, else carried
   pub made-lag : made s h .lag ≡ cond (searches s) (lagOf (stereo (s .settings)) h) (s .lag)
-  unfolding made noiseMade pitchMade
+  unfolding made noiseMade
   made-lag = go (noisy (core s)) refl
     where
       go : (b : Bool) → noisy (core s) ≡ b → (cond b (noiseMade s) (pitchMade s h)) .lag ≡ cond (searches s) (lagOf (stereo (s .settings)) h) (s .lag)
       go true e = rw (noise-searches s e)
-      go false e = refl
+      go false e = pitch-lag
 
   pub made-predictor : made s h .predictor ≡ cond (searches s) (fittedTo (stereo (s .settings)) (s .predictor) (tails h)) (s .predictor)
   unfolding made noiseMade pitchMade

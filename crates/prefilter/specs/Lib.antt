@@ -1,2 +1,2 @@
 -- The pre-filter of the overlap.
-pub mod Comb
+pub mod Prefilter

@@ -1,28 +1,27 @@
 // The pre-filter of the overlap behind the newest 1,024 samples: it undoes ahead what the post-filter will do there.
 ghost use mathlib.Core.Path.{_≡_};
-ghost use Prim.Native.Nat.{_+_, _≤_};
+ghost use mathlib.Core.Bool.{true};
+ghost use Prim.Native.Nat.{_+_};
 ghost use lib.ListN.{length};
 ghost use Rattle.loops.specs.Reply.{reply, replyIf};
-ghost use Rattle.post_filter.specs.Limits.{periodLeast, periodMost};
+ghost use Rattle.post_filter.specs.Limits.{filterFits};
 ghost use Rattle.history.specs.History.{half, overlap};
-ghost use Rattle.prefilter.specs.Comb.{preFilteredEnd, prefilterTakes};
+ghost use Rattle.prefilter.specs.Prefilter.{preFilteredEnd, prefilterTakes};
+use comb_filter::comb_filter_to;
 use history::HALF;
 use history::OVERLAP;
 use post_filter::Filter;
 use post_filter::filter_fits;
 
-mod comb;
-
 fn filter_overlap(t: &mut [f32], f: Filter)
-    requires { ⌜ (length (now t) ≡ half + overlap) × (periodLeast ≤ f .period) × (f .period ≤ periodMost) ⌝ }
+    requires { ⌜ (length (now t) ≡ half + overlap) × (filterFits f ≡ true) ⌝ }
     ensures { λ _. ⌜ now (t .exit) ≡ preFilteredEnd f (now (t .entry)) ⌝ }
 {
     if f.gain == 0.0 {
         return;
     }
-    let period = f.period as usize;
     let mut pre = [0.0f32; OVERLAP];
-    comb::comb_filter_to(&mut pre, t, period, comb::tap_gains(f));
+    comb_filter_to(&mut pre, t, f);
     buffers::copy(&mut t[HALF..], &pre);
 }
 

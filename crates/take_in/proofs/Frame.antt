@@ -1,5 +1,5 @@
 -- What a frame taken in leaves of a tail, over plain variables.
-use mathlib.Core.Path.{_≡_, ap, _∙_}
+use mathlib.Core.Path.{_≡_, refl, ap, sym, _∙_}
 use mathlib.Core.Bool.{Bool, true}
 use mathlib.Core.List.{List, [], _++_, append-nil}
 use Prim.Native.Nat.{ℕ, _+_, _-_, _≤_}
@@ -16,8 +16,8 @@ use Rattle.history.proofs.Parts.{TailSized}
 use Rattle.celt_window.specs.Window.{window}
 use Rattle.post_filter.specs.declared.Filter.{Filter}
 use Rattle.post_filter.specs.Limits.{filterFits}
-use Rattle.prefilter.specs.Comb.{preFiltered, length-preFiltered, preFilteredEnd, prefilterTakes}
-use Rattle.fold.specs.Roll.{rolled, length-rolled}
+use Rattle.prefilter.specs.Prefilter.{preFiltered, length-preFiltered, preFilteredEnd, prefilterTakes}
+use Rattle.roll.specs.Roll.{rolled, length-rolled}
 use Rattle.fold.specs.Fold.{folded, length-folded, foldTakes}
 use Rattle.take_in.specs.TakeIn.{longestFrame, extra, tailAfter, tailTakes}
 
@@ -50,7 +50,7 @@ pub after-sized : (n : ℕ) (e : List Float) (f : Filter) (t : Tail) → length 
 unfolding tailAfter
 after-sized n e f t l h z = record {
   new = length-rolled (take n e) (t .new) (omega (arith, length-take-le n e (omega arith), z .new)) ∙ z .new;
-  over = length-preFiltered f (rolled (take n e) (t .new)) (folded window (slice n (n + overlap) e)) (length-folded _ _);
+  over = length-preFiltered f _ _ (length-folded _ _);
 }
 
 module _ (n : ℕ) (x e : List Float) (f : Filter) (lx : length x ≡ half + overlap) (le : length e ≡ n + extra) (ln : n ≤ longestFrame) (fits : filterFits f ≡ true) where
@@ -76,6 +76,10 @@ module _ (n : ℕ) (x e : List Float) (f : Filter) (lx : length x ≡ half + ove
 
   tail-size : length (slice n (n + overlap) e) ≡ overlap
   tail-size = omega (arith, length-slice n (n + overlap) e (omega arith))
+
+  tail-after : tailList (tailAfter n e f (tailOf x)) ≡ framed ++ preFiltered f framed over
+  unfolding tailList tailAfter tailOf framed over
+  tail-after = refl
 
   -- r: the newest after the roll; t: the whole after it; y: the new overlap; u: the whole after the fold
   module _ (r t y u : List Float) (k : ℕ) (b0 b1 : Bool)
@@ -111,10 +115,10 @@ module _ (n : ℕ) (x e : List Float) (f : Filter) (lx : length x ≡ half + ove
 
     pub after-is : (v : List Float) (b2 : Bool) → reply b2 v ≡ replyIf (prefilterTakes (length u) f) (preFilteredEnd f u) u
         → v ≡ tailList (tailAfter n e f (tailOf x))
-    unfolding tailList tailAfter tailOf preFilteredEnd prefilterTakes framed over
+    unfolding preFilteredEnd prefilterTakes
     after-is v b2 q =
         let l : length u ≡ half + overlap = ap length joined-is ∙ omega (arith, length-append framed over, framed-size, over-size) in
         let m : prefilterTakes (length u) f ≡ true = and-both (eqb (length u) (half + overlap)) (filterFits f) (eq-eqb _ _ l) fits in
         let a : take half u ≡ framed = ap (take half) joined-is ∙ take-at framed over half framed-size in
         let b : drop half u ≡ over = ap (drop half) joined-is ∙ drop-at framed over half framed-size in
-        reply-lent _ _ _ q m ∙ (λ i. a i ++ preFiltered f (a i) (b i))
+        reply-lent _ _ _ q m ∙ (λ i. a i ++ preFiltered f (a i) (b i)) ∙ sym tail-after

@@ -10,8 +10,8 @@ use Rattle.history.specs.History.{half, overlap, Tail}
 use Rattle.celt_window.specs.Window.{window}
 use Rattle.post_filter.specs.declared.Filter.{Filter}
 use Rattle.post_filter.specs.Limits.{filterFits}
-use Rattle.prefilter.specs.Comb.{preFiltered}
-use Rattle.fold.specs.Roll.{rolled}
+use Rattle.prefilter.specs.Prefilter.{preFiltered}
+use Rattle.roll.specs.Roll.{rolled}
 use Rattle.fold.specs.Fold.{folded}
 
 abbrev pub longestFrame : ℕ

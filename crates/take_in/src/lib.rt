@@ -40,7 +40,7 @@ fn frame_in(t: &mut [f32], n: usize, e: &[f32], filter: Filter)
     ensures { λ _. ⌜ now (t .exit) ≡ tailList (tailAfter n (now (e .entry)) filter (tailOf (now (t .entry)))) ⌝ }
 {
     let end = n + OVERLAP;
-    fold::roll(&mut t[..HALF], &e[..n]);
+    roll::roll(&mut t[..HALF], &e[..n]);
     fold::fold_tail(&mut t[HALF..], &e[n..end]);
     prefilter::prefilter(t, filter);
 }

@@ -1,6 +1,9 @@
 use mathlib.Core.Path.{refl}
+use lib.ListN.{replicate}
 use borrow.Author.Needs.{needs}
-use Rattle.prefilter.specs.Comb.{skips}
+use Rattle.buffers.specs.Buffers.{zero32}
+use Rattle.history.specs.History.{overlap}
+use Rattle.prefilter.specs.Prefilter.{skips}
 use Rattle.prefilter.proofs.Laws.{pre-skip, pre-put}
 use Rattle.prefilter.proofs.filter_overlap.Statement.{statement}
 use Rattle.prefilter.proofs.filter_overlap.Tie as tie
@@ -9,14 +12,8 @@ returns : tie.Need-returns
 unfolding skips
 returns c = pre-skip _ _ (c .if1 .taken)
 
-cast-period : tie.Need-cast-period
-cast-period c = search needs
-
 slice-aggregate-comb-filter-to : tie.Need-slice-aggregate-comb-filter-to
 slice-aggregate-comb-filter-to c = search needs
-
-tap-gains-requires : tie.Need-tap-gains-requires
-tap-gains-requires c κs = search needs
 
 comb-filter-to-requires : tie.Need-comb-filter-to-requires
 comb-filter-to-requires c κs = search needs
@@ -42,24 +39,16 @@ same-length c = search needs
 returns-2 : tie.Need-returns-2
 unfolding skips
 returns-2 c =
-    let a = c .before .before .before .before .before .before .before .before .before .before .before .before .before .before .args in
-    let g = c .before .before .before .before .before .before .before .tap-gains in
-    pre-put (a .f) (a .t .now) _ _ _ (g .result .g0) (g .result .g1) (g .result .g2)
-    (c .before .before .before .before .before .before .before .before .before .before .before .if1 .left)
-    (search needs)
-    refl
-    (g .ensures)
-    (c .before .before .before .before .before .before .comb-filter-to .ensures)
-    (c .before .before .copy .ensures)
+    let a = c .before .before .before .before .before .before .before .before .before .before .before .before .args in
+    pre-put (a .f) (a .t .now) _ _ _ (c .before .before .before .before .before .before .before .before .before .if1 .left) (search needs) (search needs) refl
+    _ (replicate overlap zero32) refl (c .before .before .before .before .before .before .comb-filter-to .ensures) (c .before .before .copy .ensures)
 
 pub filter-overlap-spec : {M : Type 1} → statement M
 filter-overlap-spec =
     tie.close
     (tie.spec
     returns
-    cast-period
     slice-aggregate-comb-filter-to
-    tap-gains-requires
     comb-filter-to-requires
     sub-copy
     part-copy-start

@@ -7,9 +7,9 @@ use borrow.Author.Tests.{eq-eqb, ne-eqb, not-true, not-false}
 use Rattle.loops.specs.Logic.{and-both, and-first, and-second}
 use Rattle.loops.specs.Reply.{reply-yes, reply-no}
 use mathlib.Core.Bool.{true}
-use Rattle.post_filter.specs.Limits.{filterFits, fits-each}
+use Rattle.post_filter.specs.Limits.{filterFits}
 use Rattle.history.specs.History.{half, overlap}
-use Rattle.prefilter.specs.Comb.{prefilterTakes}
+use Rattle.prefilter.specs.Prefilter.{prefilterTakes}
 use Rattle.prefilter.proofs.prefilter.Statement.{statement}
 use Rattle.prefilter.proofs.prefilter.Tie as tie
 
@@ -32,9 +32,7 @@ returns-2 c =
     reply-no _ _ _ (and-second (eqb (length (a .t .now)) (half + overlap)) _ (sym (c .before .filter-fits .ensures) ∙ not-true _ (c .if2 .taken))) refl
 
 filter-overlap-requires : tie.Need-filter-overlap-requires
-filter-overlap-requires c κs =
-    let h = fits-each (c .before .before .before .before .before .args .f) (sym (c .before .before .filter-fits .ensures) ∙ not-false _ (c .before .if2 .left)) in
-    (search needs, h .0, h .1)
+filter-overlap-requires c κs = (search needs, sym (c .before .before .filter-fits .ensures) ∙ not-false _ (c .before .if2 .left))
 
 same-length : tie.Need-same-length
 same-length c = search needs

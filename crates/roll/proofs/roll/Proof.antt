@@ -4,9 +4,9 @@ use lib.ListN.{length}
 use borrow.Author.Needs.{needs}
 use borrow.Author.Tests.{le-leb, lt-leb}
 use Rattle.loops.specs.Reply.{reply-yes, reply-no}
-use Rattle.fold.proofs.Laws.{roll-is, move-length}
-use Rattle.fold.proofs.roll.Statement.{statement}
-use Rattle.fold.proofs.roll.Tie as tie
+use Rattle.roll.proofs.Laws.{roll-is, move-length}
+use Rattle.roll.proofs.roll.Statement.{statement}
+use Rattle.roll.proofs.roll.Tie as tie
 
 returns : tie.Need-returns
 returns c = reply-no _ _ _ (lt-leb _ _ (c .if1 .taken)) refl

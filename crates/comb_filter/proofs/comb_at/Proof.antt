@@ -1,8 +1,8 @@
 use mathlib.Core.Path.{refl}
 use borrow.Author.Needs.{needs}
-use Rattle.prefilter.specs.Comb.{combAt, pairAt}
-use Rattle.prefilter.proofs.comb.comb_at.Statement.{statement}
-use Rattle.prefilter.proofs.comb.comb_at.Tie as tie
+use Rattle.comb_filter.specs.Comb.{combAt, pairAt}
+use Rattle.comb_filter.proofs.comb_at.Statement.{statement}
+use Rattle.comb_filter.proofs.comb_at.Tie as tie
 
 sub-a : tie.Need-sub-a
 sub-a c = search needs

@@ -8,7 +8,7 @@ use lib.Seq.{getD-drop, getD-append-add, take-at, length-take-le}
 use lib.Ieee.{Float}
 use Rattle.loops.specs.Front.{front, tab, tab-same, tab-list}
 use Rattle.buffers.specs.Buffers.{copied, copied-all}
-use Rattle.fold.specs.Roll.{movedBack, rolled}
+use Rattle.roll.specs.Roll.{movedBack, rolled}
 
 -- what stands past the outputs of a loop that fills a list from the front
 pub front-later : {A : Type 0} (d : A) (xs b out : List A) (i k : ℕ) → b ≡ front out xs i → length out ≡ i → i ≤ k → getD b k d ≡ getD xs k d

@@ -1,40 +1,15 @@
--- The pre-filter of the overlap, by the taps one pitch period back.
+-- The pre-filter of the overlap.
 use mathlib.Core.Path.{_≡_, refl, _∙_, ap}
-use Prim.Native.Nat.{ℕ, _+_, _-_}
+use Prim.Native.Nat.{ℕ, _+_}
 use mathlib.Core.Bool.{Bool, true, false, cond, _&&_}
 use mathlib.Core.List.{List, _++_}
-use lib.ListN.{getD, length, take, drop}
+use lib.ListN.{length, take, drop}
 use lib.Dec.{eqb}
-use lib.Ieee.{Float, nan, binary32, add, mul, neg, eq, lt, le, ofBits}
-use Rattle.loops.specs.Front.{tab, length-tab}
+use lib.Ieee.{Float, nan, binary32, neg, eq, lt, le, ofBits}
 use Rattle.history.specs.History.{half, overlap}
 use Rattle.post_filter.specs.declared.Filter.{Filter}
 use Rattle.post_filter.specs.Limits.{filterFits}
-use Rattle.post_filter.specs.Gains.{combGains}
-
--- a tap: the negated gain times the tapset's factor k
-unfoldable pub tapGain : Filter → ℕ → Float
-tapGain f k = mul binary32 (neg (f .gain)) (getD (combGains (f .tapset)) k nan)
-
--- the two samples k away from a
-unfoldable pub pairAt : List Float → ℕ → ℕ → Float
-pairAt x a k = add binary32 (getD x (a - k) nan) (getD x (a + k) nan)
-
--- x[i], and then tap by tap, one period t back: ((x[i] + g0 × x[a]) + g1 × (x[a - 1] + x[a + 1])) + g2 × (x[a - 2] + x[a + 2])
-unfoldable pub combAt : List Float → ℕ → ℕ → Float → Float → Float → Float
-combAt x i t g0 g1 g2 =
-    let a = i - t in
-    add binary32
-    (add binary32 (add binary32 (getD x i nan) (mul binary32 g0 (getD x a nan))) (mul binary32 g1 (pairAt x a 1)))
-    (mul binary32 g2 (pairAt x a 2))
-
--- the overlap after the first 1,024, each sample from x as it was
-unfoldable pub combFilterTo : List Float → ℕ → Float → Float → Float → List Float
-combFilterTo x t g0 g1 g2 = tab (λ (i : ℕ). combAt x (half + i) t g0 g1 g2) overlap
-
-pub length-combFilterTo : (x : List Float) (t : ℕ) (g0 g1 g2 : Float) → length (combFilterTo x t g0 g1 g2) ≡ overlap
-unfolding combFilterTo
-length-combFilterTo x t g0 g1 g2 = length-tab _ overlap
+use Rattle.comb_filter.specs.Comb.{tapGain, combFilterTo, length-combFilterTo}
 
 -- a gain of zero, of either sign, skips the filter; a NaN does not
 unfoldable pub skips : Float → Bool

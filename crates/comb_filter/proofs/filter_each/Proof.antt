@@ -5,9 +5,9 @@ use borrow.Author.Needs.{needs}
 use lib.Ieee.{Float, nan}
 use Rattle.loops.specs.Front.{front, tab, tab-none, tab-more, tab-all}
 use Rattle.history.specs.History.{half, overlap}
-use Rattle.prefilter.specs.Comb.{combAt, combFilterTo}
-use Rattle.prefilter.proofs.comb.comb_filter_to.Statement.{statement}
-use Rattle.prefilter.proofs.comb.comb_filter_to.Tie as tie
+use Rattle.comb_filter.specs.Comb.{combAt, combFilterTo}
+use Rattle.comb_filter.proofs.filter_each.Statement.{statement}
+use Rattle.comb_filter.proofs.filter_each.Tie as tie
 
 abbrev Inv-loop : tie.InvT-loop
 Inv-loop dst₀ x period g i₀ dst i = (i ≤ overlap) × (length dst ≡ overlap) × (dst ≡ front (tab (λ (k : ℕ). combAt x (half + k) period (g .g0) (g .g1) (g .g2)) i) dst₀ i)
@@ -51,8 +51,8 @@ returns c =
     let l : length (a .dst .now) ≡ overlap = search needs in
     tab-all f nan (a .dst .now) (h .dst) (h .i) (h .inv .2) (search needs) ∙ ap (tab f) l
 
-pub comb-filter-to-spec : {M : Type 1} → statement M
-comb-filter-to-spec =
+pub filter-each-spec : {M : Type 1} → statement M
+filter-each-spec =
     tie.close
     (tie.spec
     Inv-loop

@@ -2,9 +2,9 @@ use mathlib.Core.Path.{ap}
 use lib.ListN.{getD}
 use borrow.Author.Needs.{needs}
 use lib.Ieee.{Float, nan, binary32, mul, neg}
-use Rattle.prefilter.specs.Comb.{tapGain}
-use Rattle.prefilter.proofs.comb.tap_gains.Statement.{statement}
-use Rattle.prefilter.proofs.comb.tap_gains.Tie as tie
+use Rattle.comb_filter.specs.Comb.{tapGain}
+use Rattle.comb_filter.proofs.tap_gains.Statement.{statement}
+use Rattle.comb_filter.proofs.tap_gains.Tie as tie
 
 comb-gains-requires : tie.Need-comb-gains-requires
 comb-gains-requires c κs = search needs

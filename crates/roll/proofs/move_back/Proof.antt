@@ -4,9 +4,9 @@ use lib.ListN.{length, getD, length-set}
 use borrow.Author.Needs.{needs}
 use lib.Ieee.{Float, nan}
 use Rattle.loops.specs.Front.{front, tab, length-tab, tab-none, tab-more}
-use Rattle.fold.proofs.Laws.{front-later, moved-is}
-use Rattle.fold.proofs.move_back.Statement.{statement}
-use Rattle.fold.proofs.move_back.Tie as tie
+use Rattle.roll.proofs.Laws.{front-later, moved-is}
+use Rattle.roll.proofs.move_back.Statement.{statement}
+use Rattle.roll.proofs.move_back.Tie as tie
 
 abbrev Inv-loop : tie.InvT-loop
 Inv-loop new₀ n kept i₀ new i = (i ≤ kept) × (length new ≡ length new₀) × (new ≡ front (tab (λ (k : ℕ). getD new₀ (n + k) nan) i) new₀ i)

@@ -1,0 +1,2 @@
+-- The comb filter.
+pub mod Comb

@@ -1,0 +1,2 @@
+-- What a frame leaves of a channel's newest samples.
+pub mod Roll
