@@ -31,7 +31,7 @@ fn keep_record(rec: &mut [u8], number: u32, s: State, history: &[f32])
     ensures { λ _. ⌜ now (rec .exit) ≡ cond (eqb number 0) (recordOf s (now (history .entry))) (now (rec .entry)) ⌝ }
 {
     if number == 0 {
-        record::write_record(rec, s, history);
+        put_record::write_record(rec, s, history);
     }
 }
 

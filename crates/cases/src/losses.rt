@@ -15,7 +15,7 @@ fn call(b: &[u8], h: &mut [f32], n: u32, pcm: &mut [f32], p: u32) -> State {
 // The record after a call.
 fn write_after(b: &mut [u8], s: State, h: &[f32]) -> bool {
     let end = streams::at_most(history::WHOLE, h.len());
-    record::write_record(b, s, &h[..end]);
+    put_record::write_record(b, s, &h[..end]);
     streams::write_bytes(b)
 }
 

@@ -4,7 +4,7 @@ use borrow.Author.Needs.{needs}
 use borrow.Author.Tests.{eq-eqb, ne-eqb}
 use Rattle.loops.specs.Pick.{pick-true, pick-false}
 use Rattle.loops.specs.Reply.{reply-lent}
-use Rattle.record.proofs.Parts.{is-writable}
+use Rattle.put_record.proofs.Parts.{is-writable}
 use Rattle.answer.proofs.keep_record.Statement.{statement}
 use Rattle.answer.proofs.keep_record.Tie as tie
 

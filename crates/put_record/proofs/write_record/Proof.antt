@@ -4,13 +4,13 @@ use Prim.Native.Nat.{_*_}
 use native.Mathlib.Omega.{arith}
 use lib.ListN.{length}
 use borrow.Author.Needs.{needs}
 use Rattle.record.specs.Record.{stateBytes, recordLength}
 use Rattle.history.specs.History.{whole}
-use Rattle.record.proofs.Parts.{record-parts, length-state, is-writable, not-a-record, not-a-history}
+use Rattle.put_record.proofs.Parts.{record-parts, length-state, is-writable, not-a-record, not-a-history}
 use Rattle.loops.specs.Reply.{reply-yes, reply-no}
 use Rattle.words.proofs.Laws.{put-held}
-use Rattle.record.proofs.write_record.Statement.{statement}
-use Rattle.record.proofs.write_record.Tie as tie
+use Rattle.put_record.proofs.write_record.Statement.{statement}
+use Rattle.put_record.proofs.write_record.Tie as tie
 
 -- what is known of the arrays where the function begins
 state-length : (c : tie.Start) → length (stateBytes (c .args .s)) ≡ 644

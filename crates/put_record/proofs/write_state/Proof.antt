@@ -4,9 +4,9 @@ use native.Mathlib.Omega.{arith}
 use lib.ListN.{length}
 use borrow.Author.Needs.{needs}
 use Rattle.words.proofs.Laws.{put-held}
-use Rattle.record.proofs.Parts.{state-parts}
-use Rattle.record.proofs.write_state.Statement.{statement}
-use Rattle.record.proofs.write_state.Tie as tie
+use Rattle.put_record.proofs.Parts.{state-parts}
+use Rattle.put_record.proofs.write_state.Statement.{statement}
+use Rattle.put_record.proofs.write_state.Tie as tie
 
 -- what is known of the arrays where the function begins
 coarse-length : (c : tie.Start) → length (c .args .s .coarse) ≡ 50
