@@ -1,6 +1,6 @@
 -- What an accepted call knows, and what its end leaves.
 use mathlib.Core.Path.{_≡_, refl, ap, ap₂, sym, _∙_}
-use mathlib.Core.Bool.{not}
+use mathlib.Core.Bool.{Bool, not}
 use mathlib.Core.List.{List}
 use Prim.Native.Nat.{ℕ, zero, suc, _≤_, _<_}
 use native.Mathlib.Omega.{arith}
@@ -9,14 +9,17 @@ use lib.Dec.{leb, eqb}
 use lib.Ieee.{Float}
 use borrow.Author.Tests.{leb-true, eqb-false, not-true}
 use Rattle.loops.specs.Front.{front}
+use Rattle.loops.specs.Reply.{reply, replyIf, reply-lent}
 use Rattle.settings.specs.Settings.{needed}
 use Rattle.settings.proofs.Passed.{or-zero, passes}
 use Rattle.state.specs.Refusal.{checkCount, checkPcm, refusesState, refusal}
 use Rattle.state.specs.declared.State.{State}
-use Rattle.deemphasis.specs.Deemphasis.{Sound}
-use Rattle.finish.specs.Finish.{Outcome, frameSound, finishWith, finish, refused, inBuffer, soundIn}
+use Rattle.state.proofs.Keep.{ok-start}
+use Rattle.deemphasis.specs.Deemphasis.{Sound, sound}
+use Rattle.frame_sound.specs.FrameSound.{soundTakes}
+use Rattle.frame_sound.proofs.Takes.{takes-all}
+use Rattle.finish.specs.Finish.{Outcome, frameSound, finishWith, finish, refused, inBuffer, soundIn, finishedBy, finished}
 use Rattle.finish.specs.declared.Made.{Made}
-use Rattle.finish.specs.Finish.{finishedBy, finished}
 
 module _ (s : State) (n p : ℕ) (z : refusal s n p ≡ 0) where
   pub accepted-state : refusesState s n ≡ 0
@@ -35,6 +38,14 @@ module _ (s : State) (n p : ℕ) (z : refusal s n p ≡ 0) where
       let q = or-zero (checkCount (s .«loss_count»)) _ (or-zero _ _ accepted-state .1) .0 in
       let e = not-true (eqb (s .«loss_count») 4294967295) (passes (not (eqb (s .«loss_count») 4294967295)) 5 q) in
       omega (arith, eqb-false (s .«loss_count») 4294967295 e)
+
+-- so its frame's sound is made
+pub heard : (s : State) (h p : List Float) (t : Bool) (y : Sound) → refusal s (length h) (length p) ≡ 0
+    → reply t y ≡ replyIf (soundTakes (s .settings) (length h) (length p)) (soundIn p (frameSound (s .settings) (s .memories) h)) (sound p (s .memories))
+    → y ≡ soundIn p (frameSound (s .settings) (s .memories) h)
+heard s h p t y z e =
+    let o = ok-start s h (accepted-state s _ _ z) in
+    reply-lent _ _ _ e (takes-all (s .settings) (length h) (length p) (o .settings) (o .history) (accepted-room s _ _ z))
 
 -- the end of either path
 pub finish-left : (s : State) (m : Made) (h p : List Float) (y : Sound) (n : ℕ)

@@ -1,3 +1,2 @@
-mod Frames
 pub mod End
 pub mod Call

@@ -3,15 +3,14 @@ use mathlib.Core.List.{List, []}
 use Prim.Native.Nat.{ℕ, zero, suc, _+_}
 use lib.ListN.{length}
 use lib.Ieee.{Float}
-use Rattle.loops.specs.Front.{front}
-use Rattle.history.specs.History.{newest}
-use Rattle.settings.specs.Settings.{frame, stereo, needed}
-use Rattle.settings.specs.declared.Settings.{Settings}
+use Rattle.settings.specs.Settings.{needed}
 use Rattle.state.specs.Refusal.{refusal}
 use Rattle.state.specs.Answer.{Report, reportOf}
 use Rattle.state.specs.declared.State.{State}
 use Rattle.state.specs.declared.Answer.{Answer}
-use Rattle.deemphasis.specs.Deemphasis.{Sound, sound, deemphasis}
+use Rattle.deemphasis.specs.Deemphasis.{Sound}
+pub use Rattle.frame_sound.specs.FrameSound.{written}
+unfoldable pub use Rattle.frame_sound.specs.FrameSound.{frameSound, soundIn}
 use Rattle.finish.specs.declared.Made.{Made}
 
 pub record Outcome : Type 0 where
@@ -20,10 +19,6 @@ pub record Outcome : Type 0 where
   pub pcm : List Float
   pub state : State
   pub history : List Float
-
--- de-emphasis of the newest N of each used channel
-unfoldable pub frameSound : Settings → List Float → List Float → Sound
-frameSound k memories h = deemphasis (k .downsample) (newest (stereo k) (frame k) h) memories
 
 -- an accepted loss, from what its path made, the history that it left, its sound and its number of samples
 abbrev pub finishWith : State → Made → List Float → Sound → ℕ → Outcome
@@ -65,12 +60,5 @@ finished s m h p = finishedBy (refusal s (length h) p) s m h
 abbrev pub outcomeOf : Answer → List Float → List Float → Outcome
 outcomeOf a pcm h = record { report = reportOf a; pcm = pcm; state = a .state; history = h }
 
--- samples written into a buffer's first places; the rest of a longer one is as it was
-abbrev pub written : List Float → List Float → List Float
-written x p = front x p (length x)
-
 unfoldable pub inBuffer : List Float → Outcome → Outcome
 inBuffer p o = record { report = o .report; pcm = written (o .pcm) p; state = o .state; history = o .history }
-
-unfoldable pub soundIn : List Float → Sound → Sound
-soundIn p y = sound (written (y .pcm) p) (y .memories)

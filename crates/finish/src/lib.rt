@@ -1,17 +1,10 @@
 // The end of a call, whichever path it went: de-emphasis, and the state after it.
 ghost use mathlib.Core.Path.{_≡_};
-ghost use Prim.Native.Nat.{_≤_};
 ghost use lib.ListN.{length};
-ghost use Rattle.history.specs.History.{whole};
-ghost use Rattle.settings.specs.Settings.{checkSettings, needed};
 ghost use Rattle.state.specs.Refusal.{refusal};
-ghost use Rattle.deemphasis.specs.Deemphasis.{sound};
-ghost use Rattle.finish.specs.Finish.{frameSound, finish, outcomeOf, inBuffer, soundIn, finished};
-use deemphasis_mono::deemphasis_mono;
-use deemphasis_stereo::deemphasis_stereo;
+ghost use Rattle.finish.specs.Finish.{finish, outcomeOf, inBuffer, finished};
+use frame_sound::frame_sound;
 use settings::Number;
-use settings::Settings;
-use sizes::frame_size;
 use sizes::needed_samples;
 use state::Answer;
 use state::State;
@@ -26,25 +19,6 @@ pub struct Made {
     pub predictor: [f32; 48],
 }
 
-// The newest N samples of each used channel as PCM; the memories after it.
-fn deemphasise(k: Settings, history: &[f32], memories: [f32; 2], pcm: &mut [f32]) -> [f32; 2]
-    requires { ⌜ (checkSettings k ≡ 0) × (length (now history) ≡ whole) × (needed k ≤ length (now pcm)) ⌝ }
-    ensures { λ r. ⌜ sound (now (pcm .exit)) r ≡ soundIn (now (pcm .entry)) (frameSound k memories (now (history .entry))) ⌝ }
-{
-    let n = frame_size(k.lm);
-    let d = k.downsample as usize;
-    let end = history::SAMPLES;
-    let a = end - n;
-    if k.channels == 2 {
-        let last = history::CHANNEL + history::SAMPLES;
-        let b = last - n;
-        let both = deemphasis_stereo(&history[a..end], &history[b..last], memories, d, pcm);
-        return both.memories;
-    }
-    let one = deemphasis_mono(&history[a..end], memories, d, pcm);
-    one.memories
-}
-
 // From what a path made and the history that it left.
 fn conclude(s: State, made: Made, history: &[f32], pcm: &mut [f32]) -> Answer
     requires { ⌜ refusal s (length (now history)) (length (now pcm)) ≡ 0 ⌝ }
@@ -52,7 +26,8 @@ fn conclude(s: State, made: Made, history: &[f32], pcm: &mut [f32]) -> Answer
 {
     let k = s.settings;
     let before = s.memories;
-    let memories = deemphasise(k, history, before, pcm);
+    let heard = frame_sound(k, history, before, pcm);
+    let memories = heard.memories;
     let count = s.loss_count + 1;
     let samples = needed_samples(k);
     let coarse = made.coarse;

@@ -1,21 +1,16 @@
 -- `finish::conclude` meets its contract: field by field.
 use Rattle.deemphasis.specs.Deemphasis.{sound}
-use Rattle.state.proofs.Keep.{ok-start}
-use Rattle.finish.proofs.End.{accepted-state, accepted-room, accepted-count, finish-left}
+use Rattle.finish.proofs.End.{accepted-count, heard, finish-left}
 use borrow.Author.Needs.{needs}
 use Rattle.finish.proofs.conclude.Statement.{statement}
 use Rattle.finish.proofs.conclude.Tie as tie
 
-deemphasise-requires : tie.Need-deemphasise-requires
-deemphasise-requires c κs =
-    let x = c .before .before .before .before .before in
-    let h = x .args .history .now in
-    let o = ok-start (x .args .s) h (accepted-state (x .args .s) _ _ (x .pre)) in
-    (o .settings, o .history, accepted-room (x .args .s) _ _ (x .pre))
+frame-sound-requires : tie.Need-frame-sound-requires
+frame-sound-requires c κs = search needs
 
 add-count : tie.Need-add-count
 add-count c =
-    let x = c .before .before .before .before .before .before .before .before .before in
+    let x = c .before .before .before .before .before .before .before .before .before .before in
     let w = accepted-count (x .args .s) _ _ (x .pre) (search needs) in
     search needs
 
@@ -27,10 +22,13 @@ same-length c = search needs
 
 returns : tie.Need-returns
 returns c =
-    let x = c .before .before .before .before .before .before .before .before .before .before .before .before in
-    let y = c .before .before .before .before .before .before .deemphasise in
-    finish-left (x .args .s) (x .args .made) (x .args .history .now) (x .args .pcm .now) (sound _ (y .result)) _ (y .ensures) (c .before .before .needed-samples .ensures)
+    let x = c .before .before .before .before .before .before .before .before .before .before .before .before .before in
+    let y = c .before .before .before .before .before .before .before .frame-sound in
+    let s = x .args .s in
+    let h = x .args .history .now in
+    let p = x .args .pcm .now in
+    finish-left s (x .args .made) h p (sound _ (y .result .memories)) _ (heard s h p _ _ (x .pre) (y .ensures)) (c .before .before .needed-samples .ensures)
 
 pub conclude-spec : {M : Type 1} → statement M
 conclude-spec =
-    tie.close (tie.spec deemphasise-requires add-count needed-samples-requires same-length returns)
+    tie.close (tie.spec frame-sound-requires add-count needed-samples-requires same-length returns)

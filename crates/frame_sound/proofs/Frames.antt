@@ -17,7 +17,7 @@ use Rattle.settings.specs.Settings.{frame, stereo, checkSettings, blockFactor, 
 use Rattle.settings.specs.declared.Settings.{Settings}
 use Rattle.settings.proofs.Passed.{passed, frame-is, frame-high, frame-divides, downsample-low, needed-is}
 use Rattle.deemphasis.specs.Deemphasis.{Sound, hasRoom, deemphasis, deemphasised, deemphasisMono, deemphasisStereo}
-use Rattle.finish.specs.Finish.{frameSound, soundIn}
+use Rattle.frame_sound.specs.FrameSound.{frameSound, soundIn}
 
 room-fits : (d n room : ℕ) → 1 ≤ d → n % d ≡ 0 → n / d ≤ room → hasRoom d n room ≡ true
 unfolding hasRoom

@@ -1,9 +1,9 @@
--- `finish::deemphasise` meets its contract: the lengths fit.
+-- `frame_sound::deemphasise` meets its contract: the lengths fit.
 use native.Mathlib.Omega.{arith}
-use Rattle.finish.proofs.Frames.{high, mono-sound, stereo-sound}
+use Rattle.frame_sound.proofs.Frames.{high, mono-sound, stereo-sound}
 use borrow.Author.Needs.{needs}
-use Rattle.finish.proofs.deemphasise.Statement.{statement}
-use Rattle.finish.proofs.deemphasise.Tie as tie
+use Rattle.frame_sound.proofs.deemphasise.Statement.{statement}
+use Rattle.frame_sound.proofs.deemphasise.Tie as tie
 
 frame-size-requires : tie.Need-frame-size-requires
 frame-size-requires c κs = search needs

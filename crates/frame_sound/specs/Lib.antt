@@ -1,0 +1,2 @@
+-- The sound of a frame.
+pub mod FrameSound
