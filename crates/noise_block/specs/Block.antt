@@ -10,7 +10,7 @@ use Rattle.band_quant.specs.Draw.{draws}
 use Rattle.custom_mode.specs.Mode.{shortBlock, overlap, bands, lastEdge, edge}
 use Rattle.mdct.specs.Imdct.{imdct}
 use Rattle.celt_window.specs.Window.{window, lowOverlapWindow}
-use Rattle.noise_spectrum.specs.Shape.{noiseShape, noise-seed}
+use Rattle.noise_shape.specs.Shape.{noiseShape, noise-seed}
 use Rattle.noise_spectrum.specs.Spectrum.{spectrum}
 
 -- sample j of the block from the outputs u of the transform, 2 n of them: twice the output, times the window

@@ -2,7 +2,7 @@
 use mathlib.Core.Path.{_≡_, refl, ap, ap₂, _∙_}
 use mathlib.Core.List.{List, [], _++_, append-nil}
 use mathlib.Core.Bool.{Bool, true, false, _&&_}
-use Prim.Native.Nat.{ℕ, _+_, _*_, _-_, _≤_}
+use Prim.Native.Nat.{ℕ, _*_, _-_, _≤_}
 use native.Mathlib.Omega.{arith}
 use lib.ListN.{length, take, drop, replicate, length-drop, drop-of-length-le}
 use lib.Seq.{length-take-le}
@@ -13,7 +13,7 @@ use Rattle.loops.specs.Fold.{foldRange}
 use Rattle.loops.specs.Logic.{and-true, and-first, and-second}
 use Rattle.loops.specs.Reply.{reply, replyIf, reply-lent, reply-yes, reply-no}
 use Rattle.buffers.specs.Buffers.{zero32}
-use Rattle.noise_spectrum.specs.Shape.{Shape, shaped, noiseShape}
+use Rattle.noise_shape.specs.Shape.{Shape, shaped, noiseShape}
 use Rattle.noise_spectrum.specs.Spectrum.{gainTurn, bound, cleared, spectrum, spectrumOver, spectrumFits, spectrumTakes}
 
 -- ---- the spectrum

@@ -1,30 +1,15 @@
 -- What the loops over the bands rest on.
-use mathlib.Core.Path.{_≡_, ap, ap₂, _∙_, sym}
+use mathlib.Core.Path.{_≡_, ap, ap₂, _∙_}
 use mathlib.Core.List.{List, _++_, map}
-use Prim.Native.Nat.{ℕ, _+_, _*_, _-_, _/_, _≤_, _<_}
+use Prim.Native.Nat.{ℕ, _+_, _*_, _/_, _≤_, _<_}
 use native.Mathlib.Omega.{arith}
 use lib.ListN.{take, drop}
 use lib.Ieee.{Float}
 use borrow.Author.Tests.{lt-ltb, le-ltb, eq-eqb, ne-eqb}
 use Rattle.loops.specs.Fold.{foldRange, range-more}
 use Rattle.buffers.specs.Buffers.{times}
-use Rattle.band_quant.specs.Draw.{draws}
-use Rattle.noise_spectrum.specs.Shape.{lo, width, bandNoise, Shape, noiseTurn}
+use Rattle.noise_shape.specs.Shape.{lo, width}
 use Rattle.noise_spectrum.specs.Spectrum.{bound, bound-in, gainOfBand, gainTurn}
-
--- one more band of noise: y came back for the part of k bins from a on
-pub noise-more : (m start i k a len s s' : ℕ) (z : Shape) (bins y : List Float)
-    → foldRange (noiseTurn m) z start i ≡ record { bins = bins; seed = s } → start ≤ i → a ≡ lo m i → k ≡ width m i → len ≡ k
-    → y ≡ bandNoise len s → s' ≡ draws len s
-    → foldRange (noiseTurn m) z start (i + 1) ≡ record { bins = take a bins ++ (y ++ drop k (drop a bins)); seed = s' }
-unfolding noiseTurn
-noise-more m start i k a len s s' z bins y e h ea ek el ey es =
-    let w : len ≡ width m i = el ∙ ek in
-    sym (range-more (noiseTurn m) z (record { bins = bins; seed = s }) start i (sym e) h)
-    ∙ ap₂ (λ (b : List Float) (r : ℕ). record { bins = b; seed = r })
-    (ap₂ (λ p q. take p bins ++ (bandNoise (width m i) s ++ drop q (drop p bins))) (sym ea) (sym ek)
-    ∙ ap (λ v. take a bins ++ (v ++ drop k (drop a bins))) (sym (ey ∙ ap (λ n. bandNoise n s) w)))
-    (sym (es ∙ ap (λ n. draws n s) w))
 
 -- one more band times its gain
 pub gains-more : (m start i k a : ℕ) (g : Float) (energies bins₀ bins y : List Float)

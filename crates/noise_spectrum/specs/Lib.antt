@@ -1,3 +1,2 @@
--- The spectrum of a noise block: shape, spectrum.
-pub mod Shape
+-- The spectrum of a noise block.
 pub mod Spectrum

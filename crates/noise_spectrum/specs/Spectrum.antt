@@ -14,7 +14,7 @@ use Rattle.loops.specs.Part.{put, length-put}
 use Rattle.buffers.specs.Buffers.{zero32, times}
 use Rattle.custom_mode.specs.Mode.{shortBlock, bands, maxBands, lastEdge, mean}
 use Rattle.band_gain.specs.Gain.{gainOf}
-use Rattle.noise_spectrum.specs.Shape.{lo, width, Shape, noiseShape, band-in, lo-in, length-noiseShape}
+use Rattle.noise_shape.specs.Shape.{lo, width, Shape, noiseShape, band-in, lo-in, length-noiseShape}
 
 -- the gain of band i, from a channel's 25 energies
 unfoldable pub gainOfBand : List Float → ℕ → Float

@@ -7,24 +7,17 @@ use custom_mode::standard::MAX_BANDS;
 use custom_mode::standard::SHORT_BLOCK;
 use custom_mode::standard::band_edge;
 use custom_mode::standard::mean_energy;
+use noise_shape::FACTOR_MOST;
+use noise_shape::Shaped;
+use noise_shape::noise_shape;
 ghost use mathlib.Core.Path.{_≡_};
 ghost use Prim.Native.Nat.{_*_, _≤_};
 ghost use lib.ListN.{length};
 ghost use Rattle.custom_mode.specs.Mode.{shortBlock, bands, maxBands, lastEdge};
 ghost use Rattle.loops.specs.Fold.{foldRange};
 ghost use Rattle.loops.specs.Reply.{reply, replyIf};
+ghost use Rattle.noise_shape.specs.Shape.{shaped};
 ghost use Rattle.noise_spectrum.specs.Spectrum.{gainTurn, bound, spectrumOver, spectrumFits, spectrumTakes};
-ghost use Rattle.noise_spectrum.specs.Shape.{shaped};
-
-mod shape;
-
-const FACTOR_MOST: usize = 8;
-
-// Whether settings and lengths fitted, and the seed.
-pub struct Shaped {
-    pub taken: bool,
-    pub seed: u32,
-}
 
 // Each band from start to just below end, times its gain.
 fn apply_gains(bins: &mut [f32], m: usize, start: usize, end: usize, energies: &[f32])
@@ -68,11 +61,11 @@ fn fill_spectrum(
     ensures { λ r. ⌜ (r ≡ spectrumOver m start end downsample seed (now (energies .entry)) (now (bins .entry)) .seed)
         × (now (bins .exit) ≡ spectrumOver m start end downsample seed (now (energies .entry)) (now (bins .entry)) .bins) ⌝ }
 {
-    let s = shape::noise_shape(bins, m, start, seed);
+    let s = noise_shape(bins, m, start, seed);
     apply_gains(bins, m, start, end, energies);
     let b = bound_of(m, end, downsample);
     fill(&mut bins[b..], 0.0);
-    s
+    s.seed
 }
 
 // A block factor of at most 8, end at least start and at most 21, and a factor of downsampling.

@@ -3,7 +3,7 @@ use Prim.Native.Nat.{ℕ, _+_, _≤_, _-_, _*_}
 use native.Mathlib.Omega.{arith}
 use lib.ListN.{length, getD}
 use borrow.Author.Needs.{needs}
-use Rattle.noise_spectrum.specs.Shape.{lo, band-in}
+use Rattle.noise_shape.specs.Shape.{lo, band-in}
 use Rattle.noise_spectrum.specs.Spectrum.{gainOfBand, gainTurn}
 use Rattle.loops.specs.Fold.{foldRange, range-none}
 use Rattle.noise_spectrum.proofs.Laws.{gains-more}

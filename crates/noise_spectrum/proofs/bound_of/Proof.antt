@@ -1,8 +1,8 @@
 use mathlib.Core.Path.{_≡_, ap}
-use Prim.Native.Nat.{_-_, _*_}
+use Prim.Native.Nat.{_*_}
 use native.Mathlib.Omega.{arith}
 use borrow.Author.Needs.{needs}
-use Rattle.noise_spectrum.specs.Shape.{lo, lo-in}
+use Rattle.noise_shape.specs.Shape.{lo, lo-in}
 use Rattle.noise_spectrum.proofs.Laws.{bound-part, bound-far, bound-one}
 use Rattle.noise_spectrum.proofs.bound_of.Statement.{statement}
 use Rattle.noise_spectrum.proofs.bound_of.Tie as tie

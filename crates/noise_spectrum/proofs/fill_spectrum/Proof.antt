@@ -1,8 +1,9 @@
 use mathlib.Core.Path.{_≡_}
-use Prim.Native.Nat.{_≤_, _-_, _*_}
+use Prim.Native.Nat.{_≤_, _*_}
 use native.Mathlib.Omega.{arith}
 use lib.ListN.{length}
 use borrow.Author.Needs.{needs}
+use Rattle.noise_shape.proofs.Calls.{shape-left}
 use Rattle.noise_spectrum.proofs.Calls.{spectrum-is, seed-is}
 use Rattle.noise_spectrum.proofs.fill_spectrum.Statement.{statement}
 use Rattle.noise_spectrum.proofs.fill_spectrum.Tie as tie
@@ -20,10 +21,7 @@ inside c =
     omega arith
 
 noise-shape-requires : tie.Need-noise-shape-requires
-noise-shape-requires c κs =
-    let o = c .before .before .before in
-    let l = o .pre .4 in
-    (o .pre .0, omega arith, omega arith)
+noise-shape-requires c κs = tt
 
 apply-gains-requires : tie.Need-apply-gains-requires
 apply-gains-requires c κs =
@@ -61,10 +59,12 @@ returns c =
     let a = o .args in
     let n = c .before .before .before .before .before .before .before .before .before .before .before .noise-shape in
     let g = c .before .before .before .before .before .before .before .apply-gains in
-    let u = c .before .before .before .before in (
-      seed-is (a .m) (a .start) (a .end) (a .downsample) (a .seed) _ (a .energies .now) (a .bins .now) (n .ensures .0),
+    let u = c .before .before .before .before in
+    let l = o .pre .4 in
+    let s = shape-left (a .m) (a .start) (a .seed) (a .bins .now) (o .pre .0) (omega arith) (omega arith) (n .ensures) in (
+      seed-is (a .m) (a .start) (a .end) (a .downsample) (a .seed) _ (a .energies .now) (a .bins .now) (s .0),
       spectrum-is (a .m) (a .start) (a .end) (a .downsample) (a .seed) (u .bound-of .result) (a .energies .now) (a .bins .now) (n .last .0) (g .last .0)
-          (c .before .before .fill .last .0) (n .ensures .1) (g .ensures) (u .bound-of .ensures .0) (inside u) (c .before .before .fill .ensures),
+          (c .before .before .fill .last .0) (s .1) (g .ensures) (u .bound-of .ensures .0) (inside u) (c .before .before .fill .ensures),
     )
 
 pub fill-spectrum-spec : {M : Type 1} → statement M

@@ -1,11 +1,10 @@
 use mathlib.Core.Path.{ap, _∙_}
-use Prim.Native.Nat.{_-_}
 use borrow.Author.Needs.{needs}
 use Rattle.buffers.specs.Buffers.{one32}
 use Rattle.band_quant.specs.Renormalise.{renormaliseVector}
-use Rattle.noise_spectrum.specs.Shape.{bandNoise}
-use Rattle.noise_spectrum.proofs.shape.band_noise.Statement.{statement}
-use Rattle.noise_spectrum.proofs.shape.band_noise.Tie as tie
+use Rattle.noise_shape.specs.Shape.{bandNoise}
+use Rattle.noise_shape.proofs.band_noise.Statement.{statement}
+use Rattle.noise_shape.proofs.band_noise.Tie as tie
 
 noise-fill-requires : tie.Need-noise-fill-requires
 noise-fill-requires c κs = search needs

@@ -1,10 +1,12 @@
 -- Noise in every band from start to the last, each brought to unit energy, though the end band may be lower.
 use mathlib.Core.Path.{_≡_, refl, ap, _∙_, sym}
 use mathlib.Core.List.{List}
+use mathlib.Core.Bool.{Bool, _&&_}
 use Prim.Native.Nat.{ℕ, zero, suc, _+_, _*_, _-_, _≤_, _<_}
 use native.Mathlib.Nat.{mul-le-mul-left, mul-sub, add-zero, sub-self}
 use native.Mathlib.Omega.{arith}
 use lib.ListN.{length}
+use lib.Dec.{leb}
 use lib.Ieee.{Float}
 use Rattle.loops.specs.Fold.{foldTo, foldRange}
 use Rattle.loops.specs.Part.{put, length-put}
@@ -47,6 +49,10 @@ noiseTurn m s i = record {
 -- over bins that are all zero: noise in the bands from start to 20
 unfoldable pub noiseShape : ℕ → ℕ → ℕ → List Float → Shape
 noiseShape m start seed bins = foldRange (noiseTurn m) (record { bins = bins; seed = seed }) start bands
+
+-- a block factor of at most 8, a start of at most 21, and bins for all bands
+unfoldable pub shapeTakes : ℕ → ℕ → ℕ → Bool
+shapeTakes m start size = leb m 8 && (leb start bands && leb (m * lastEdge) size)
 
 -- the bands from one on do not fall
 edge-up : (i n : ℕ) → i + n ≤ bands → edge i ≤ edge (i + n)

@@ -3,12 +3,12 @@ use Prim.Native.Nat.{_+_, _≤_, _-_, _*_}
 use native.Mathlib.Omega.{arith}
 use lib.ListN.{length}
 use borrow.Author.Needs.{needs}
-use Rattle.noise_spectrum.specs.Shape.{lo, band-in, Shape, noiseTurn, noiseShape}
+use Rattle.noise_shape.specs.Shape.{lo, band-in, Shape, noiseTurn, noiseShape}
 use Rattle.loops.specs.Fold.{foldRange, range-none}
-use Rattle.noise_spectrum.proofs.Laws.{noise-more}
+use Rattle.noise_shape.proofs.Laws.{noise-more}
 use borrow.Rule.Slice.PartMut.{midOf, mid-len, same-len-mid}
-use Rattle.noise_spectrum.proofs.shape.noise_shape.Statement.{statement}
-use Rattle.noise_spectrum.proofs.shape.noise_shape.Tie as tie
+use Rattle.noise_shape.proofs.shape_each.Statement.{statement}
+use Rattle.noise_shape.proofs.shape_each.Tie as tie
 
 abbrev Inv-loop : tie.InvT-loop
 Inv-loop bins₀ m start seed s₀ i₀ bins s i =
@@ -115,8 +115,8 @@ returns c =
     let r : foldRange (noiseTurn (a .m)) z (a .start) 21 ≡ record { bins = h .bins; seed = h .s } = ap (foldRange (noiseTurn (a .m)) z (a .start)) e ∙ h .inv .3 in
     (sym (ap (λ (q : Shape). q .seed) r), sym (ap (λ (q : Shape). q .bins) r))
 
-pub noise-shape-spec : {M : Type 1} → statement M
-noise-shape-spec =
+pub shape-each-spec : {M : Type 1} → statement M
+shape-each-spec =
     tie.close
     (tie.spec
     Inv-loop

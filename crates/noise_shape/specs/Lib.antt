@@ -1,0 +1,2 @@
+-- Noise at unit energy in the bands.
+pub mod Shape
