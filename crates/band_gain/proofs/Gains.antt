@@ -12,7 +12,8 @@ use lib.Ieee.Bits.{ofBits-fits}
 use Rattle.loops.specs.Pick.{pick-true, pick-false}
 use Rattle.float_extremes.specs.Extremes.{minOf}
 use Rattle.float_narrow.specs.Narrow.{narrow}
-use Rattle.band_gain.specs.Gain.{GainRange, steps, power, series, gainAt, bandGain}
+use Rattle.powers.specs.Powers.{power}
+use Rattle.band_gain.specs.Gain.{GainRange, steps, series, gainAt, bandGain}
 
 abbrev lowest : Float
 lowest = neg (ofBits binary32 0x4316_0000)

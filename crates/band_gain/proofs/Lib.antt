@@ -1,4 +1,3 @@
-mod Tables
 mod Wholes
 mod Floor
 mod Limits

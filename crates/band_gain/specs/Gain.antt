@@ -2,11 +2,10 @@
 use Prim.Native.Nat.{ℕ, _+_, _*_, _-_, _/_, _%_, _<_, _≤_}
 use mathlib.Core.Bool.{Bool, true, false, cond}
 use lib.Dec.{eqb}
-use lib.ListN.{getD}
 use lib.Ieee.{Float, nan, inf, fin, binary32, binary64, up, down, minus, ofInt, ofBits, neg, add, sub, mul, div, le}
 use Rattle.float_extremes.specs.Extremes.{minOf}
 use Rattle.float_narrow.specs.Narrow.{narrow}
-use Rattle.band_gain.specs.Powers.{powerBits}
+use Rattle.powers.specs.Powers.{power}
 
 -- The greatest whole number not above a / b, or not above -a / b where negative, counted from 38,400 below 0
 unfoldable pub floorFrom : Bool → ℕ → ℕ → ℕ
@@ -18,10 +17,6 @@ unfoldable pub steps : Float → ℕ
 steps nan = 0
 steps (inf s) = 0
 steps (fin s m e) = floorFrom s (256 * (m * up e)) (down e)
-
--- A[i]
-unfoldable pub power : ℕ → Float
-power i = ofBits binary64 (getD powerBits i 0)
 
 -- 1 + y * (1 + y * (0.5 + y * (1 / 6))), the last as the f64 nearest to it
 unfoldable pub series : Float → Float

@@ -3,8 +3,8 @@ use mathlib.Core.Path.{_≡_, refl}
 use lib.Ieee.{nan, binary32, ofBits, neg, add, sub, mul, div, le, lt, eq, isNan, ofInt}
 use Rattle.float_extremes.specs.Extremes.{minOf}
 use Rattle.float_narrow.specs.Narrow.{narrow}
-use Rattle.band_gain.specs.Powers.{powerBits}
-use Rattle.band_gain.specs.Gain.{floorFrom, steps, power, series, gainAt, bandGain, gainOf}
+use Rattle.powers.specs.Powers.{powerBits, power}
+use Rattle.band_gain.specs.Gain.{floorFrom, steps, series, gainAt, bandGain, gainOf}
 
 -- 0 gives 1; 32 and NaN give 2 ^ 32; -150 gives +0
 pub gains :

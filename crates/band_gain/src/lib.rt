@@ -1,20 +1,10 @@
 // The gain of a band, from the f32 sum of its energy and its mean.
 ghost use mathlib.Core.Path.{_≡_};
 ghost use mathlib.Core.Bool.{false};
-ghost use Prim.Native.Nat.{_+_, _*_, _/_, _%_, _<_, _≤_};
+ghost use Prim.Native.Nat.{_≤_};
 ghost use lib.Dec.{T};
 ghost use lib.Ieee.{fin, minus, fits, ofInt, add, binary32, binary64};
-ghost use Rattle.band_gain.specs.Gain.{steps, power, gainAt, gainOf, GainRange};
-
-mod powers;
-
-// 2 ^ (i / 256) to the nearest f64; i counts modulo 256.
-pub fn power_at(i: u64) -> f64
-    ensures { λ r. ⌜ r ≡ power (i % 256) ⌝ }
-{
-    let at = (i % 256) as usize;
-    powers::POWERS[at]
-}
+ghost use Rattle.band_gain.specs.Gain.{steps, gainAt, gainOf, GainRange};
 
 // k + 38,400, where k is the greatest whole number not above 256 x.
 fn steps_of(x: f32) -> u64
@@ -62,7 +52,7 @@ fn gain_at(x: f32, q: u64) -> f32
     let r = float_bits::formats::f32_to_f64(x) - whole(q) / 256.0;
     let y = r * 0.6931471805599453;
     let p = 1.0 + y * (1.0 + y * (0.5 + y * 0.16666666666666666));
-    float_narrow::f64_to_f32(power_at(q) * p * two_to(q / 256))
+    float_narrow::f64_to_f32(powers::power_at(q) * p * two_to(q / 256))
 }
 
 // Stands for 2 ^ (energy + mean), the exponent at most 32; NaN counts as 32.

@@ -31,7 +31,7 @@ fn answer_one(op: u32) -> bool {
     }
     match op {
         502 => write_factor(rate::resampling_factor(x.value)),
-        503 => streams::write_double(band_gain::power_at(x.value as u64)),
+        503 => streams::write_double(powers::power_at(x.value as u64)),
         504 => streams::write_float(standard::mean_energy(x.value as usize)),
         505 => streams::write_number(standard::band_edge(x.value as usize)),
         _ => false,

@@ -1,6 +1,8 @@
 -- The table of 2 ^ (i / 256) for i from 0 to 255, by the bits of its f64 values; specs/Nearest.antt has its rule.
 use mathlib.Core.List.{List, [], _∷_}
 use Prim.Native.Nat.{ℕ}
+use lib.ListN.{getD}
+use lib.Ieee.{Float, binary64, ofBits}
 
 unfoldable pub powerBits : List ℕ
 powerBits =
@@ -56,3 +58,7 @@ powerBits =
     0x3fff_0f9c_1cb6_412a ∷ 0x3fff_252b_376b_ba97 ∷ 0x3fff_3ac9_48dd_7274 ∷ 0x3fff_5076_5b6e_4540 ∷ 0x3fff_6632_7988_44f8 ∷
     0x3fff_7bfd_ad9c_be14 ∷ 0x3fff_91d8_0224_3c89 ∷ 0x3fff_a7c1_819e_90d8 ∷ 0x3fff_bdba_3692_d514 ∷ 0x3fff_d3c2_2b8f_71f1 ∷
     0x3fff_e9d9_6b2a_23d9 ∷ []
+
+-- A[i]
+unfoldable pub power : ℕ → Float
+power i = ofBits binary64 (getD powerBits i 0)

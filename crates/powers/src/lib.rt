@@ -1,5 +1,9 @@
-// 2 ^ (i / 256), to the nearest f64.
-pub(crate) const POWERS: [f64; 256] = [
+// The fractional powers of two: 2 ^ (i / 256), to the nearest f64.
+ghost use mathlib.Core.Path.{_≡_};
+ghost use Prim.Native.Nat.{_%_};
+ghost use Rattle.powers.specs.Powers.{power};
+
+const POWERS: [f64; 256] = [
     1.0,
     1.0027112750502025,
     1.0054299011128027,
@@ -257,3 +261,11 @@ pub(crate) const POWERS: [f64; 256] = [
     1.9891988469672663,
     1.9945921121709402,
 ];
+
+// i counts modulo 256.
+pub fn power_at(i: u64) -> f64
+    ensures { λ r. ⌜ r ≡ power (i % 256) ⌝ }
+{
+    let at = (i % 256) as usize;
+    POWERS[at]
+}

@@ -1,11 +1,10 @@
 use Prim.Native.Nat.{_%_}
 use borrow.Author.Needs.{needs}
 use lib.Ieee.{nan, ofBits, binary64}
-use Rattle.band_gain.specs.Powers.{powerBits}
-use Rattle.band_gain.specs.Gain.{power}
-use Rattle.band_gain.proofs.Tables.{read-map}
-use Rattle.band_gain.proofs.power_at.Statement.{statement}
-use Rattle.band_gain.proofs.power_at.Tie as tie
+use Rattle.powers.specs.Powers.{powerBits, power}
+use Rattle.powers.proofs.Tables.{read-map}
+use Rattle.powers.proofs.power_at.Statement.{statement}
+use Rattle.powers.proofs.power_at.Tie as tie
 
 mul-result : tie.Need-mul-result
 mul-result c = search needs

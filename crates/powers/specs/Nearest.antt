@@ -6,7 +6,7 @@ use lib.ListN.{getD}
 use lib.Dec.{ltb, eqb}
 use borrow.Author.Tests.{ltb-true, eqb-true}
 use Rattle.loops.specs.Logic.{and-true}
-use Rattle.band_gain.specs.Powers.{powerBits}
+use Rattle.powers.specs.Powers.{powerBits}
 use Rattle.loops.specs.Below.{below, below-at}
 
 -- twice the significand of an f64 from 1 up to 2

@@ -1,0 +1,3 @@
+-- The fractional powers of two.
+pub mod Powers
+pub mod Nearest
