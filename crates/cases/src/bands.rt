@@ -6,7 +6,7 @@ fn answer_draw() -> bool {
     if !seed.whole {
         return false;
     }
-    streams::write_word(band_quant::celt_lcg_rand(seed.value))
+    streams::write_word(draw::celt_lcg_rand(seed.value))
 }
 
 fn renormalise_front(x: &mut [f32], width: usize) {

@@ -12,7 +12,7 @@ use Rattle.loops.specs.Front.{tab}
 use Rattle.loops.specs.Fold.{fold-holds}
 use Rattle.loops.specs.Logic.{cond-either}
 use Rattle.buffers.specs.Buffers.{zero32, times, energy}
-use Rattle.band_quant.specs.Draw.{draw, draws, draw-word}
+use Rattle.draw.specs.Draw.{draw, draws, draw-word}
 use Rattle.history.specs.History.{half, overlap, channel, Tail, Tails, withTails}
 use Rattle.celt_window.specs.Window.{window}
 use Rattle.post_filter.specs.declared.Filter.{Filter}

@@ -11,7 +11,7 @@ use Rattle.loops.specs.Logic.{cond-either}
 use Rattle.custom_mode.specs.Mode.{bands, lastEdge}
 use Rattle.history.specs.History.{half, overlap, Tail, Tails}
 use Rattle.history.proofs.Parts.{TailSized, Sized}
-use Rattle.band_quant.specs.Draw.{draws}
+use Rattle.draw.specs.Draw.{draws}
 use Rattle.settings.specs.Settings.{factor, frame, firstBin, checkSettings}
 use Rattle.settings.specs.declared.Settings.{Settings}
 use Rattle.settings.proofs.Passed.{frame-low, frame-high}

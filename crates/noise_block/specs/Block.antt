@@ -6,7 +6,7 @@ use lib.ListN.{length, getD, replicate}
 use lib.Ieee.{Float, nan, binary32, ofBits, mul}
 use Rattle.loops.specs.Front.{tab, length-tab}
 use Rattle.buffers.specs.Buffers.{zero32}
-use Rattle.band_quant.specs.Draw.{draws}
+use Rattle.draw.specs.Draw.{draws}
 use Rattle.custom_mode.specs.Mode.{shortBlock, overlap, bands, lastEdge, edge}
 use Rattle.mdct.specs.Imdct.{imdct}
 use Rattle.celt_window.specs.Window.{window, lowOverlapWindow}

@@ -5,7 +5,7 @@ use Prim.Native.Nat.{ℕ, _+_, _≤_}
 use lib.ListN.{take, drop}
 use lib.Ieee.{Float}
 use Rattle.loops.specs.Fold.{foldRange, range-more}
-use Rattle.band_quant.specs.Draw.{draws}
+use Rattle.draw.specs.Draw.{draws}
 use Rattle.noise_shape.specs.Shape.{lo, width, bandNoise, Shape, noiseTurn}
 
 -- one more band of noise: y came back for the part of k bins from a on

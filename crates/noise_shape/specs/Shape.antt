@@ -11,8 +11,8 @@ use lib.Ieee.{Float}
 use Rattle.loops.specs.Fold.{foldTo, foldRange}
 use Rattle.loops.specs.Part.{put, length-put}
 use Rattle.buffers.specs.Buffers.{one32}
-use Rattle.band_quant.specs.Draw.{draws, draws-none, draws-add}
-use Rattle.band_quant.specs.Noise.{noiseBand, length-noiseBand}
+use Rattle.draw.specs.Draw.{draws, draws-none, draws-add}
+use Rattle.draw.specs.Noise.{noiseBand, length-noiseBand}
 use Rattle.band_quant.specs.Renormalise.{renormaliseVector, length-renormaliseVector}
 use Rattle.custom_mode.specs.Mode.{bands, lastEdge, edges, edge}
 use Rattle.custom_mode.specs.Bands.{edges-rise}

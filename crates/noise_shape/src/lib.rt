@@ -1,14 +1,14 @@
 // Noise at unit energy in every band from start to the last.
-use band_quant::noise_fill;
 use band_quant::renormalise_vector;
 use custom_mode::standard::BANDS;
 use custom_mode::standard::LAST_EDGE;
 use custom_mode::standard::band_edge;
+use draw::noise_fill;
 ghost use mathlib.Core.Path.{_≡_};
 ghost use Prim.Native.Nat.{_*_, _≤_};
 ghost use lib.ListN.{length};
 ghost use Rattle.loops.specs.Reply.{reply, replyIf};
-ghost use Rattle.band_quant.specs.Draw.{draws};
+ghost use Rattle.draw.specs.Draw.{draws};
 ghost use Rattle.custom_mode.specs.Mode.{bands, lastEdge};
 ghost use Rattle.noise_shape.specs.Shape.{bandNoise, shaped, noiseShape, shapeTakes};
 

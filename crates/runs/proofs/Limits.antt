@@ -9,7 +9,7 @@ use lib.ListN.{drop}
 use lib.Ieee.{Float}
 use lib.Dec.{eqb}
 use borrow.Author.Tests.{eqb-true, ne-eqb}
-use Rattle.band_quant.specs.Draw.{draws, draws-add}
+use Rattle.draw.specs.Draw.{draws, draws-add}
 use Rattle.history.specs.History.{half, Tails, tails, both}
 use Rattle.history.proofs.Parts.{newest-tails}
 use Rattle.settings.specs.Settings.{frame, stereo, needed, drawsPerLoss}

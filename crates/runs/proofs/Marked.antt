@@ -6,8 +6,8 @@ use native.Mathlib.Omega.{arith}
 use lib.ListN.{length}
 use Rattle.float_narrow.specs.Marked.{marked-rounding}
 use Rattle.float_root.specs.Marked.{marked-roots}
-use Rattle.band_quant.specs.Draw.{draws}
-use Rattle.band_quant.specs.Marked.{drawn, heard}
+use Rattle.draw.specs.Draw.{draws}
+use Rattle.draw.specs.Marked.{drawn, heard}
 use Rattle.custom_mode.specs.Mode.{edges, edge}
 use Rattle.band_gain.specs.Marked.{gains}
 use Rattle.post_filter.specs.Limits.{filterFits}

@@ -10,7 +10,7 @@ use lib.Seq.{slice}
 use lib.Ieee.{Float}
 use lib.Dec.{eqb}
 use borrow.Author.Tests.{eqb-true, eqb-false}
-use Rattle.band_quant.specs.Draw.{draws, draws-add}
+use Rattle.draw.specs.Draw.{draws, draws-add}
 use Rattle.custom_mode.specs.Mode.{lastEdge}
 use Rattle.history.specs.History.{half, overlap, Tails, tails, both}
 use Rattle.history.proofs.Parts.{tails-sized, newest-tails}

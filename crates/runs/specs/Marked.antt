@@ -7,9 +7,9 @@ use lib.IntN.{pos, negsuc}
 use lib.Ieee.{Float, nan, fin, binary32, ofBits, toBits, neg}
 use Rattle.float_root.specs.Root.{sqrtOf}
 use Rattle.float_narrow.specs.Narrow.{narrow}
-use Rattle.band_quant.specs.Draw.{draws}
-use Rattle.band_quant.specs.Noise.{noiseBand}
-use Rattle.band_quant.specs.Marked.{f32Of}
+use Rattle.draw.specs.Draw.{draws}
+use Rattle.draw.specs.Noise.{noiseBand}
+use Rattle.draw.specs.Marked.{f32Of}
 use Rattle.band_gain.specs.Gain.{gainOf}
 use Rattle.history.specs.History.{whole}
 use Rattle.state.specs.State.{core, noisy}

@@ -5,7 +5,7 @@ use mathlib.Core.List.{List, [], _∷_}
 use Prim.Native.Nat.{ℕ, _+_, _*_, _≤_}
 use lib.Dec.{eqb}
 use lib.Ieee.{Float}
-use Rattle.band_quant.specs.Draw.{draws}
+use Rattle.draw.specs.Draw.{draws}
 use Rattle.history.specs.History.{tails, newest}
 use Rattle.settings.specs.Settings.{frame, stereo, drawsPerLoss}
 use Rattle.state.specs.State.{core, noisy}

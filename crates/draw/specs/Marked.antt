@@ -5,8 +5,8 @@ use lib.IntN.{ℤ, pos, negsuc}
 use lib.Ieee.{Float, ofInt, binary32}
 use Rattle.loops.specs.Front.{tab}
 use Rattle.float_bits.specs.Words.{signed, noiseStep, noiseValue}
-use Rattle.band_quant.specs.Draw.{draw, draws}
-use Rattle.band_quant.specs.Noise.{noiseBand}
+use Rattle.draw.specs.Draw.{draw, draws}
+use Rattle.draw.specs.Noise.{noiseBand}
 
 -- n as an f32
 abbrev pub f32Of : ℤ → Float

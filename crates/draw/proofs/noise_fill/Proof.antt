@@ -4,11 +4,11 @@ use lib.ListN.{length, length-set}
 use borrow.Author.Needs.{needs}
 use Rattle.loops.specs.Front.{front, tab, tab-none, tab-all}
 use lib.Ieee.{nan}
-use Rattle.band_quant.specs.Draw.{draws, draws-none}
-use Rattle.band_quant.proofs.Turn.{seed-more, noise-more}
-use Rattle.band_quant.specs.Noise.{noiseAt, noiseBand}
-use Rattle.band_quant.proofs.noise_fill.Statement.{statement}
-use Rattle.band_quant.proofs.noise_fill.Tie as tie
+use Rattle.draw.specs.Draw.{draws, draws-none}
+use Rattle.draw.proofs.Turn.{seed-more, noise-more}
+use Rattle.draw.specs.Noise.{noiseAt, noiseBand}
+use Rattle.draw.proofs.noise_fill.Statement.{statement}
+use Rattle.draw.proofs.noise_fill.Tie as tie
 
 abbrev Inv-loop : tie.InvT-loop
 Inv-loop x₀ seed n s₀ i₀ x s i =

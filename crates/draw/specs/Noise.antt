@@ -6,7 +6,7 @@ use lib.ListN.{length}
 use lib.Ieee.{Float}
 use Rattle.loops.specs.Front.{tab, length-tab}
 use Rattle.float_bits.specs.Words.{noiseValue}
-use Rattle.band_quant.specs.Draw.{draws}
+use Rattle.draw.specs.Draw.{draws}
 
 abbrev pub noiseAt : ℕ → ℕ → Float
 noiseAt seed i = noiseValue (draws (i + 1) seed)

@@ -1,7 +1,7 @@
 use borrow.Author.Needs.{needs}
-use Rattle.band_quant.proofs.Turn.{draw-done}
-use Rattle.band_quant.proofs.celt_lcg_rand.Statement.{statement}
-use Rattle.band_quant.proofs.celt_lcg_rand.Tie as tie
+use Rattle.draw.proofs.Turn.{draw-done}
+use Rattle.draw.proofs.celt_lcg_rand.Statement.{statement}
+use Rattle.draw.proofs.celt_lcg_rand.Tie as tie
 
 wrapping-mul-u32-requires : tie.Need-wrapping-mul-u32-requires
 wrapping-mul-u32-requires c κs = search needs
