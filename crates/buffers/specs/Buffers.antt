@@ -1,10 +1,7 @@
--- Sample buffers: copied, scaled, and their energy.
-use mathlib.Core.Path.{_≡_, ap₂, _∙_}
-use mathlib.Core.List.{List, _++_, append-nil}
+-- Sample buffers: scaled, and their energy.
+use mathlib.Core.List.{List}
 use Prim.Native.Nat.{ℕ}
-use native.Mathlib.Omega.{arith}
-use lib.ListN.{length, getD, take, drop, drop-of-length-le}
-use lib.Seq.{take-all}
+use lib.ListN.{length, getD}
 use lib.Ieee.{Float, nan, binary32, mul, ofBits}
 use Rattle.loops.specs.Sum.{sumTo}
 
@@ -15,15 +12,6 @@ zero32 = ofBits binary32 0
 -- 1
 abbrev pub one32 : Float
 one32 = ofBits binary32 0x3f80_0000
-
--- src over the first places of dst
-unfoldable pub copied : List Float → List Float → List Float
-copied src dst = take (length dst) src ++ drop (length src) dst
-
-pub copied-all : (src dst : List Float) → length src ≡ length dst → copied src dst ≡ src
-unfolding copied
-copied-all src dst e =
-    ap₂ (λ y z. y ++ z) (take-all (length dst) src (omega arith)) (drop-of-length-le dst {i = length src} (omega arith)) ∙ append-nil src
 
 -- v times g
 abbrev pub times : Float → Float → Float

@@ -1,26 +1,8 @@
 // Loops over sample buffers that several steps share.
 ghost use mathlib.Core.Path.{_≡_};
 ghost use mathlib.Core.List.{map};
-ghost use mathlib.Core.Bool.{cond};
-ghost use lib.Dec.{ltb};
 ghost use lib.ListN.{length, replicate};
-ghost use Rattle.buffers.specs.Buffers.{copied, times, energy};
-
-fn shorter(a: usize, b: usize) -> usize
-    ensures { λ r. ⌜ r ≡ cond (ltb a b) a b ⌝ }
-{
-    if a < b { a } else { b }
-}
-
-// The first samples of dst become src's, as many as both have.
-pub fn copy(dst: &mut [f32], src: &[f32])
-    ensures { λ _. ⌜ now (dst .exit) ≡ copied (now (src .entry)) (now (dst .entry)) ⌝ }
-{
-    let n = shorter(src.len(), dst.len());
-    for i in 0..n {
-        dst[i] = src[i];
-    }
-}
+ghost use Rattle.buffers.specs.Buffers.{times, energy};
 
 // Every sample becomes v.
 pub fn fill(x: &mut [f32], v: f32)

@@ -7,7 +7,7 @@ use lib.ListN.{length, getD, take, drop, length-drop, drop-of-length-le}
 use lib.Seq.{getD-append-add, getD-drop, take-all, take-at}
 use lib.Ieee.{Float, nan, binary32, add}
 use Rattle.loops.specs.Front.{front, tab, length-tab}
-use Rattle.buffers.specs.Buffers.{copied, copied-all}
+use Rattle.copying.specs.Copy.{copied, copied-all}
 use Rattle.noise_cover.specs.Cover.{overlapped}
 
 -- what stands at k is not yet written

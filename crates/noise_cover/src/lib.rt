@@ -6,7 +6,7 @@ ghost use lib.ListN.{length, drop};
 ghost use Rattle.loops.specs.Reply.{reply, replyIf};
 ghost use Rattle.history.specs.History.{overlap};
 ghost use Rattle.noise_cover.specs.Cover.{overlapped, layTakes};
-use buffers::copy;
+use copying::copy;
 use history::OVERLAP;
 
 // `tail` is a channel's newest n samples and its overlap. The block's first samples are added to the old overlap.

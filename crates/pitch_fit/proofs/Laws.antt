@@ -9,7 +9,7 @@ use lib.ListN.{length}
 use lib.Ieee.{Float}
 use borrow.Author.Tests.{eq-eqb, le-leb}
 use Rattle.loops.specs.Reply.{reply, replyIf, reply-lent}
-use Rattle.buffers.specs.Buffers.{copied, copied-all}
+use Rattle.copying.specs.Copy.{copied, copied-all}
 use Rattle.history.specs.History.{half}
 use Rattle.celt_window.specs.Window.{window}
 use Rattle.plc.specs.Autocorr.{celtAutocorr, length-celtAutocorr}

@@ -14,7 +14,7 @@ fn fit(new: &[f32], lpc: &mut [f32])
     ensures { λ _. ⌜ now (lpc .exit) ≡ pitchFit (now (new .entry)) ⌝ }
 {
     let mut x = [0.0f32; HALF];
-    buffers::copy(&mut x, new);
+    copying::copy(&mut x, new);
     let w = celt_window::window();
     let mut ac = plc::autocorr::celt_autocorr_windowed(&x, &w);
     plc_lag_window::lag_window(&mut ac);

@@ -12,7 +12,7 @@ use mir.Syntax.{w64}
 use mir.Val as Val
 use borrow.Author.Needs.{fits-under}
 use borrow.Author.Tests.{eqb-true, leb-true, eq-eqb, le-leb}
-use Rattle.buffers.specs.Buffers.{copied, copied-all}
+use Rattle.copying.specs.Copy.{copied, copied-all}
 use Rattle.loops.specs.Logic.{and-true, and-both, cond-either}
 use Rattle.loops.specs.Part.{put, length-put}
 use Rattle.loops.specs.Reply.{reply, replyIf, reply-lent}

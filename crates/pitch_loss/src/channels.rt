@@ -36,7 +36,7 @@ fn coefficients(predictor: [f32; 48], from: usize) -> [f32; 24]
     ensures { λ r. ⌜ r ≡ take order (drop from predictor) ⌝ }
 {
     let mut c = [0.0f32; ORDER];
-    buffers::copy(&mut c, &predictor[from..from + ORDER]);
+    copying::copy(&mut c, &predictor[from..from + ORDER]);
     c
 }
 

@@ -9,7 +9,7 @@ use lib.Ieee.{Float, nan, binary32, add}
 use Rattle.loops.specs.Front.{tab, tab-same, tab-list, getD-tab}
 use Rattle.loops.specs.Part.{put}
 use Rattle.loops.specs.Sum.{sum-none, sum-more}
-use Rattle.buffers.specs.Buffers.{copied}
+use Rattle.copying.specs.Copy.{copied}
 use Rattle.plc_pad.specs.Pad.{Remembers, Holds, tap, tapsRow}
 
 -- the samples of xs copied behind the memory

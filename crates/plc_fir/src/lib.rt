@@ -19,7 +19,7 @@ fn padded(buf: &[f32], mem: &[f32]) -> [f32; 1048]
 {
     let mut pad = [0.0f32; ORDER + LONGEST];
     plc_pad::remember(&mut pad, mem);
-    buffers::copy(&mut pad[ORDER..], buf);
+    copying::copy(&mut pad[ORDER..], buf);
     pad
 }
 

@@ -47,7 +47,7 @@ pub fn whiten(x_lp: &mut [f32]) -> bool
         return false;
     }
     let mut lp = [0.0f32; HALF];
-    buffers::copy(&mut lp, x_lp);
+    copying::copy(&mut lp, x_lp);
     let num = whitening(&lp);
     let mem = [0.0f32; 4];
     plc_fir::celt_fir_inplace(x_lp, &num, &mem);

@@ -12,7 +12,7 @@ use borrow.Author.Tests.{eq-eqb}
 use Rattle.loops.specs.Logic.{and-both}
 use Rattle.loops.specs.Reply.{reply, replyIf, reply-lent}
 use Rattle.loops.specs.Pick.{pick-true, pick-false}
-use Rattle.buffers.specs.Buffers.{copied, copied-all}
+use Rattle.copying.specs.Copy.{copied, copied-all}
 use Rattle.post_filter.specs.declared.Filter.{Filter}
 use Rattle.post_filter.specs.Limits.{filterFits}
 use Rattle.history.specs.History.{half, overlap}

@@ -22,7 +22,7 @@ fn filter_overlap(t: &mut [f32], f: Filter)
     }
     let mut pre = [0.0f32; OVERLAP];
     comb_filter_to(&mut pre, t, f);
-    buffers::copy(&mut t[HALF..], &pre);
+    copying::copy(&mut t[HALF..], &pre);
 }
 
 // A gain of zero leaves the overlap, a NaN does not. Refused, with t as lent: t not of 1,144 samples, a setting outside its limits.

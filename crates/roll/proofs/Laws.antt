@@ -7,7 +7,7 @@ use lib.ListN.{length, getD, take, drop, length-append, length-drop, drop-of-len
 use lib.Seq.{getD-drop, getD-append-add, take-at, length-take-le}
 use lib.Ieee.{Float}
 use Rattle.loops.specs.Front.{front, tab, tab-same, tab-list}
-use Rattle.buffers.specs.Buffers.{copied, copied-all}
+use Rattle.copying.specs.Copy.{copied, copied-all}
 use Rattle.roll.specs.Roll.{movedBack, rolled}
 
 -- what stands past the outputs of a loop that fills a list from the front

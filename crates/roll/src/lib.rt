@@ -28,6 +28,6 @@ pub fn roll(new: &mut [f32], frame: &[f32]) -> bool
     }
     let kept = new.len() - n;
     move_back(new, n);
-    buffers::copy(&mut new[kept..], frame);
+    copying::copy(&mut new[kept..], frame);
     true
 }

@@ -2,7 +2,7 @@ use lib.ListN.{length}
 use mathlib.Core.Path.{refl, _∙_}
 use borrow.Author.Tests.{eq-eqb, ne-eqb}
 use Rattle.loops.specs.Reply.{reply-yes, reply-no}
-use Rattle.buffers.specs.Buffers.{copied-all}
+use Rattle.copying.specs.Copy.{copied-all}
 use Rattle.plc_whiten.proofs.Steps.{whiten-done}
 use borrow.Author.Needs.{needs}
 use Rattle.plc_whiten.proofs.whiten.Statement.{statement}

@@ -4,9 +4,9 @@ use lib.ListN.{length, take, length-set}
 use lib.Ieee.{nan}
 use borrow.Author.Needs.{needs}
 use Rattle.loops.specs.Front.{front, copy-none, copy-more}
-use Rattle.buffers.proofs.Copying.{shorter-within, copy-all}
-use Rattle.buffers.proofs.copy.Statement.{statement}
-use Rattle.buffers.proofs.copy.Tie as tie
+use Rattle.copying.proofs.Laws.{shorter-within, copy-all}
+use Rattle.copying.proofs.copy.Statement.{statement}
+use Rattle.copying.proofs.copy.Tie as tie
 
 abbrev Inv-loop : tie.InvT-loop
 Inv-loop dst₀ src n i₀ dst i = (i ≤ n) × (n ≤ length src) × (n ≤ length dst₀) × (length dst ≡ length dst₀) × (dst ≡ front (take i src) dst₀ i)

@@ -10,7 +10,7 @@ use lib.Dec.{ltb}
 use lib.Ieee.{Float}
 use borrow.Author.Tests.{ltb-true, ltb-false}
 use Rattle.loops.specs.Front.{front}
-use Rattle.buffers.specs.Buffers.{copied}
+use Rattle.copying.specs.Copy.{copied}
 
 pub shorter-within : (a b n : ℕ) → n ≡ cond (ltb a b) a b → (n ≤ a) × (n ≤ b)
 shorter-within a b n e = go (ltb a b) refl e

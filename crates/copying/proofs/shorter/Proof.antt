@@ -1,8 +1,8 @@
 use mathlib.Core.Path.{sym}
 use Rattle.loops.specs.Pick.{pick-true, pick-false}
 use borrow.Author.Tests.{lt-ltb, le-ltb}
-use Rattle.buffers.proofs.shorter.Statement.{statement}
-use Rattle.buffers.proofs.shorter.Tie as tie
+use Rattle.copying.proofs.shorter.Statement.{statement}
+use Rattle.copying.proofs.shorter.Tie as tie
 
 returns : tie.Need-returns
 returns c = sym (pick-true _ _ _ (lt-ltb _ _ (c .if1 .taken)))
