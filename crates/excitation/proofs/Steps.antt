@@ -1,24 +1,25 @@
 -- What the steps make together: of the excitation, only its last two periods are read.
 use mathlib.Core.Path.{_≡_, refl, ap, _∙_}
-use mathlib.Core.Bool.{Bool, true, false, cond}
+use mathlib.Core.Bool.{Bool, true, false, cond, _&&_}
 use mathlib.Core.List.{List, _++_}
 use Prim.Native.Nat.{ℕ, zero, suc, _+_, _*_, _-_, _≤_}
 use native.Mathlib.Omega.{arith}
-use lib.Dec.{eqb, ltb}
+use lib.Dec.{eqb, leb, ltb}
 use lib.ListN.{length, getD, take, drop}
 use lib.Seq.{length-take-le, getD-append-add, getD-drop}
 use lib.Ieee.{Float, nan, binary32, mul}
-use borrow.Author.Tests.{eqb-true, eq-eqb, le-leb}
+use borrow.Author.Tests.{eqb-true, leb-true, eq-eqb, le-leb}
+use Rattle.loops.specs.Logic.{and-true}
 use Rattle.loops.specs.Reply.{reply, replyIf, reply-lent}
-use Rattle.buffers.specs.Buffers.{copied, copied-all}
+use Rattle.buffers.specs.Buffers.{zero32, copied, copied-all}
 use Rattle.history.specs.History.{half}
 use Rattle.loops.specs.Fold.{foldTo}
 use Rattle.loops.specs.Front.{tab-same}
 use Rattle.loops.specs.Sum.{sum-same}
 use Rattle.plc_fir.specs.Fir.{celtFir, celtFirFrom, firTakes}
+use Rattle.periodic_copy.specs.Copy.{stepped, positionAt, decayAt, periodicCopy, copiedEnergy, cycle, cycleTakes}
 use Rattle.excitation.specs.Decay.{longestPeriod, decayPeriod, periodEnergy, decayOf, pitchDecay}
-use Rattle.excitation.specs.Copy.{stepped, positionAt, decayAt, periodicCopy, copiedEnergy}
-use Rattle.excitation.specs.Cycle.{cycle, repeatedCycle, pitchCycle}
+use Rattle.excitation.specs.Cycle.{repeatedCycle, pitchCycle}
 
 -- the two lists have the same from a on
 abbrev Agree : ℕ → List Float → List Float → Type 0
@@ -89,17 +90,35 @@ whitened-is from lpc new mem x₀ x y t l k m n q e =
     reply-lent _ _ _ e f ∙ ap (celtFirFrom from lpc mem) p
 
 -- the cycle, from an excitation worked out only from `from` on
-pub repeat-is : (m from : ℕ) (new lpc mem exc e : List Float) (lag : ℕ) (d s : Float) → length new ≡ half → lag ≤ half
-    → from ≡ half - 2 * decayPeriod lag → exc ≡ celtFirFrom from lpc mem new → d ≡ pitchDecay exc lag
-    → (e ≡ periodicCopy exc lag d m) × (s ≡ copiedEnergy new lag m) → cycle e s ≡ pitchCycle m lpc mem new lag
+cycle-is : (m from : ℕ) (new lpc mem exc : List Float) (lag : ℕ) (d : Float) → length new ≡ half → lag ≤ half → from ≡ half - 2 * decayPeriod lag
+    → exc ≡ celtFirFrom from lpc mem new → d ≡ pitchDecay exc lag
+    → cycle (periodicCopy exc lag d m) (copiedEnergy new lag m) ≡ pitchCycle m lpc mem new lag
 unfolding repeatedCycle pitchCycle
-repeat-is m from new lpc mem exc e lag d s l h q p1 p2 p3 =
+cycle-is m from new lpc mem exc lag d l h q p1 p2 =
     let full : List Float = celtFir lpc mem new in
     let part : List Float = celtFirFrom from lpc mem new in
     let a : Agree from part full = from-agrees from lpc mem new (omega arith) in
     let u : pitchDecay part lag ≡ pitchDecay full lag = decay-same from part full a lag (omega arith) in
     let v : periodicCopy part lag d m ≡ periodicCopy full lag d m = copy-same from part full a lag d m (omega (arith, period-ge lag h)) in
     let d' : d ≡ pitchDecay full lag = p2 ∙ ap (λ z. pitchDecay z lag) p1 ∙ u in
-    let e' : e ≡ periodicCopy full lag (pitchDecay full lag) m =
-    p3 .0 ∙ ap (λ z. periodicCopy z lag d m) p1 ∙ v ∙ ap (λ z. periodicCopy full lag z m) d' in
-    λ i. cycle (e' i) (p3 .1 i)
+    let e' : periodicCopy exc lag d m ≡ periodicCopy full lag (pitchDecay full lag) m =
+    ap (λ z. periodicCopy z lag d m) p1 ∙ v ∙ ap (λ z. periodicCopy full lag z m) d' in
+    ap (λ z. cycle z (copiedEnergy new lag m)) e'
+
+-- only what is taken need be the same
+reply-same : {A : Type 0} (b : Bool) (x y was : A) → (b ≡ true → x ≡ y) → replyIf b x was ≡ replyIf b y was
+unfolding replyIf
+reply-same true x y was h = ap (λ z. reply true z) (h refl)
+reply-same false x y was h = refl
+
+takes-lag : (n lag : ℕ) → cycleTakes n lag ≡ true → lag ≤ half
+unfolding cycleTakes
+takes-lag n lag e = leb-true lag half (and-true (eqb n half && leb 1 lag) (leb lag half) e .1)
+
+-- with the lags that the copy takes
+pub repeat-is : (m from : ℕ) (new lpc mem exc e₀ e : List Float) (lag : ℕ) (d s : Float) (t : Bool) → length new ≡ half → from ≡ half - 2 * decayPeriod lag
+    → exc ≡ celtFirFrom from lpc mem new → d ≡ pitchDecay exc lag
+    → reply t (cycle e s) ≡ replyIf (cycleTakes (length new) lag) (cycle (periodicCopy exc lag d m) (copiedEnergy new lag m)) (cycle e₀ zero32)
+    → reply t (cycle e s) ≡ replyIf (cycleTakes (length new) lag) (pitchCycle m lpc mem new lag) (cycle e₀ zero32)
+repeat-is m from new lpc mem exc e₀ e lag d s t l q p1 p2 r =
+    r ∙ reply-same _ _ _ _ (λ b. cycle-is m from new lpc mem exc lag d l (takes-lag (length new) lag b) q p1 p2)

@@ -1,23 +1,12 @@
 -- The last pitch cycle of the excitation, repeated with its decay.
 use mathlib.Core.Path.{_≡_}
 use Prim.Native.Nat.{ℕ}
-use mathlib.Core.Bool.{Bool, _&&_}
 use mathlib.Core.List.{List}
 use lib.ListN.{length}
-use lib.Dec.{eqb, leb}
 use lib.Ieee.{Float}
-use Rattle.history.specs.History.{half}
 use Rattle.plc_fir.specs.Fir.{celtFir}
+use Rattle.periodic_copy.specs.Copy.{periodicCopy, copiedEnergy, length-periodicCopy, Cycle, cycle}
 use Rattle.excitation.specs.Decay.{pitchDecay}
-use Rattle.excitation.specs.Copy.{periodicCopy, copiedEnergy, length-periodicCopy}
-
--- samples, and the energy of the history that they stand for
-pub record Cycle : Type 0 where
-  pub samples : List Float
-  pub energy : Float
-
-abbrev pub cycle : List Float → Float → Cycle
-cycle x s = record { samples = x; energy = s }
 
 -- an excitation's cycle, m samples
 unfoldable pub repeatedCycle : ℕ → List Float → ℕ → List Float
@@ -30,7 +19,3 @@ length-repeatedCycle m exc lag = length-periodicCopy exc lag _ m
 -- m samples, by the coefficients c and the filter's memory
 unfoldable pub pitchCycle : ℕ → List Float → List Float → List Float → ℕ → Cycle
 pitchCycle m c mem new lag = cycle (repeatedCycle m (celtFir c mem new) lag) (copiedEnergy new lag m)
-
--- how many samples are repeated from, by which lag
-unfoldable pub cycleTakes : ℕ → ℕ → Bool
-cycleTakes n lag = eqb n half && leb 1 lag && leb lag half

@@ -1,4 +1,3 @@
--- What a pitch loss repeats, in the Rust's order: excitation, decay, copy.
+-- What a pitch loss repeats, in the Rust's order: decay, cycle.
 pub mod Decay
-pub mod Copy
 pub mod Cycle

@@ -1,8 +1,6 @@
 // How fast the waveform decays from one pitch cycle to the next.
 ghost use mathlib.Core.Path.{_≡_};
 ghost use Prim.Native.Nat.{_≤_};
-ghost use lib.ListN.{length};
-ghost use Rattle.history.specs.History.{half};
 ghost use Rattle.excitation.specs.Decay.{longestPeriod, decayPeriod, pitchDecay};
 use history::HALF;
 
@@ -16,8 +14,7 @@ pub(crate) fn decay_period(lag: usize) -> usize
 }
 
 // The root of the newest period's energy over that of the one before it, at most 1.
-pub(crate) fn pitch_decay(exc: &[f32], lag: usize) -> f32
-    requires { ⌜ length (now exc) ≡ half ⌝ }
+pub(crate) fn pitch_decay(exc: &[f32; 1024], lag: usize) -> f32
     ensures { λ r. ⌜ r ≡ pitchDecay (now (exc .entry)) lag ⌝ }
 {
     let period = decay_period(lag);

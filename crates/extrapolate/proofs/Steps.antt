@@ -15,8 +15,8 @@ use Rattle.history.specs.History.{half}
 use Rattle.plc_fir.specs.Fir.{celtFir}
 use Rattle.plc_iir.specs.Iir.{celtIir, iirTakes}
 use Rattle.plc_iir_pair.specs.Pair.{channels, iirPairTakes}
-use Rattle.excitation.specs.Copy.{copiedEnergy}
-use Rattle.excitation.specs.Cycle.{cycle, pitchCycle, cycleTakes}
+use Rattle.periodic_copy.specs.Copy.{copiedEnergy, cycle, cycleTakes}
+use Rattle.excitation.specs.Cycle.{pitchCycle}
 use Rattle.energy_guard.specs.Guard.{guarded}
 use Rattle.extrapolate.specs.Extrapolate.{longest, recent, excitation, fade, fadedCycle, length-fadedCycle, extrapolated, extrapolateTakes, extrapolatePairTakes}
 

@@ -11,8 +11,8 @@ use Rattle.buffers.specs.Buffers.{one32, times}
 use Rattle.history.specs.History.{half}
 use Rattle.plc_fir.specs.Fir.{celtFir}
 use Rattle.plc_iir.specs.Iir.{celtIir, length-celtIir}
-use Rattle.excitation.specs.Copy.{copiedEnergy}
-use Rattle.excitation.specs.Cycle.{repeatedCycle, length-repeatedCycle, cycleTakes}
+use Rattle.periodic_copy.specs.Copy.{copiedEnergy, cycleTakes}
+use Rattle.excitation.specs.Cycle.{repeatedCycle, length-repeatedCycle}
 use Rattle.energy_guard.specs.Guard.{guarded, length-guarded}
 pub use Rattle.plc_pad.specs.Pad.{order}
 

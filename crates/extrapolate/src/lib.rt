@@ -6,7 +6,7 @@ ghost use Rattle.loops.specs.Reply.{reply, replyIf};
 ghost use Rattle.history.specs.History.{half};
 ghost use Rattle.plc_fir.specs.Fir.{celtFir};
 ghost use Rattle.plc_iir_pair.specs.Pair.{channels};
-ghost use Rattle.excitation.specs.Copy.{copiedEnergy};
+ghost use Rattle.periodic_copy.specs.Copy.{copiedEnergy};
 ghost use Rattle.extrapolate.specs.Extrapolate.{fade, recent, fadedCycle, extrapolated, extrapolateTakes, extrapolatePairTakes};
 use energy_guard::energy_guard;
 use history::HALF;

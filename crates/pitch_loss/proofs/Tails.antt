@@ -26,7 +26,7 @@ use Rattle.settings.specs.declared.Settings.{Settings}
 use Rattle.settings.specs.Settings.{frame, stereo, checkSettings, blockFactor}
 use Rattle.settings.proofs.Passed.{frame-is, frame-high}
 use Rattle.state.specs.Refusal.{lagLeast, lagMost}
-use Rattle.excitation.specs.Cycle.{cycleTakes}
+use Rattle.periodic_copy.specs.Copy.{cycleTakes}
 use Rattle.extrapolate.specs.Extrapolate.{order, longest, extrapolated, length-extrapolated, extrapolateTakes, extrapolatePairTakes}
 use Rattle.take_in.specs.TakeIn.{longestFrame, extra, tailAfter, tailTakes}
 use Rattle.take_in.proofs.Frame.{after-sized, tail-takes}

@@ -1,7 +1,7 @@
 use borrow.Author.Needs.{needs}
 use borrow.Author.Tests.{eq-eqb, ne-eqb, le-leb, lt-leb}
 use Rattle.history.specs.History.{half}
-use Rattle.excitation.specs.Cycle.{cycleTakes}
+use Rattle.periodic_copy.specs.Copy.{cycleTakes}
 use Rattle.extrapolate.specs.Extrapolate.{longest, extrapolateTakes}
 use Rattle.extrapolate.proofs.takes.Statement.{statement}
 use Rattle.extrapolate.proofs.takes.Tie as tie

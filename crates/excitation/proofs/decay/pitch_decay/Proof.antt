@@ -39,8 +39,8 @@ add-a c = search needs
 mul-a : tie.Need-mul-a Inv-loop μ-loop
 mul-a c = search needs
 
-shared-slice-read-a : tie.Need-shared-slice-read-a Inv-loop μ-loop
-shared-slice-read-a c = search needs
+element-copy-out-a : tie.Need-element-copy-out-a Inv-loop μ-loop
+element-copy-out-a c = search needs
 
 add-b : tie.Need-add-b Inv-loop μ-loop
 add-b c = search needs
@@ -48,8 +48,8 @@ add-b c = search needs
 mul-b : tie.Need-mul-b Inv-loop μ-loop
 mul-b c = search needs
 
-shared-slice-read-b : tie.Need-shared-slice-read-b Inv-loop μ-loop
-shared-slice-read-b c = search needs
+element-copy-out-b : tie.Need-element-copy-out-b Inv-loop μ-loop
+element-copy-out-b c = search needs
 
 add-i : tie.Need-add-i Inv-loop μ-loop
 add-i c = search needs
@@ -61,7 +61,7 @@ loop-again : tie.Need-loop-again Inv-loop μ-loop
 unfolding periodEnergy
 loop-again c =
     let h = c .before .before .before .loop in
-    let exc : List Float = c .before .before .before .before .before .before .args .exc .now in
+    let exc : List Float = c .before .before .before .before .before .args .exc .now in
     let p : ℕ = c .before .before .before .before .decay-period .result in (
       search needs,
       sum-more binary32 (λ (k : ℕ). squareAt exc (half - p + k)) _ _ _ (h .inv .1),
@@ -78,7 +78,7 @@ returns : tie.Need-returns Inv-loop μ-loop
 unfolding pitchDecay decayOf
 returns c =
     let h = c .before .before .before .loop in
-    let a = c .before .before .before .before .before .before .args in
+    let a = c .before .before .before .before .before .args in
     let p : ℕ = c .before .before .before .before .decay-period .result in
     let q : p ≡ decayPeriod (a .lag) = c .before .before .before .before .decay-period .ensures .0 in
     let i : h .i ≡ p = search needs in
@@ -102,10 +102,10 @@ pitch-decay-spec =
     loop-holds
     add-a
     mul-a
-    shared-slice-read-a
+    element-copy-out-a
     add-b
     mul-b
-    shared-slice-read-b
+    element-copy-out-b
     add-i
     loop-less
     loop-again

@@ -2,10 +2,10 @@
 use mathlib.Core.Path.{_≡_, refl, ap, _∙_, sym}
 use Prim.Native.Nat.{ℕ, zero, suc, _+_, _-_, _<_}
 use native.Mathlib.Omega.{arith}
-use mathlib.Core.Bool.{Bool, true, false, cond}
+use mathlib.Core.Bool.{Bool, true, false, cond, _&&_}
 use mathlib.Core.List.{List}
 use lib.ListN.{getD, length}
-use lib.Dec.{eqb}
+use lib.Dec.{eqb, leb}
 use borrow.Author.Tests.{eqb-false}
 use lib.Ieee.{Float, nan, binary32, mul}
 use Rattle.loops.specs.Fold.{foldTo, fold-more, fold-none}
@@ -73,3 +73,15 @@ copiedEnergy new lag n = sumTo binary32 (λ (i : ℕ). squareAt new (positionAt 
 pub length-periodicCopy : (exc : List Float) (lag : ℕ) (d : Float) (n : ℕ) → length (periodicCopy exc lag d n) ≡ n
 unfolding periodicCopy
 length-periodicCopy exc lag d n = length-tab _ n
+
+-- samples, and the energy of the history that they stand for
+pub record Cycle : Type 0 where
+  pub samples : List Float
+  pub energy : Float
+
+abbrev pub cycle : List Float → Float → Cycle
+cycle x s = record { samples = x; energy = s }
+
+-- how many samples are repeated from, by which lag
+unfoldable pub cycleTakes : ℕ → ℕ → Bool
+cycleTakes n lag = eqb n half && leb 1 lag && leb lag half

@@ -6,12 +6,12 @@ use lib.ListN.{length, getD, length-set}
 use borrow.Author.Needs.{needs}
 use lib.Ieee.{Float, nan, binary32, add, mul}
 use Rattle.loops.specs.Front.{front, tab, tab-none, tab-more, tab-all}
-use Rattle.excitation.specs.Copy.{stepped-lt, stepped, positionAt, decayAt, periodicCopy, copiedEnergy, position-none, position-more, decay-none, decay-more}
+use Rattle.periodic_copy.specs.Copy.{stepped-lt, stepped, positionAt, decayAt, periodicCopy, copiedEnergy, position-none, position-more, decay-none, decay-more}
 use Rattle.buffers.specs.Buffers.{zero32, squareAt}
 use Rattle.history.specs.History.{half}
 use Rattle.loops.specs.Sum.{sumTo, sum-none, sum-more}
-use Rattle.excitation.proofs.copy.periodic_copy.Statement.{statement}
-use Rattle.excitation.proofs.copy.periodic_copy.Tie as tie
+use Rattle.periodic_copy.proofs.copy_each.Statement.{statement}
+use Rattle.periodic_copy.proofs.copy_each.Tie as tie
 
 -- sample i of the copy
 abbrev copyAt : List Float → ℕ → Float → ℕ → Float
@@ -30,7 +30,7 @@ sub-pos c = search needs
 
 loop-holds : tie.Need-loop-holds Inv-loop μ-loop
 loop-holds c =
-    let a = c .before .before .before .args in (
+    let a = c .before .before .args in (
       search needs,
       search needs,
       search needs,
@@ -43,8 +43,8 @@ loop-holds c =
 mul-e : tie.Need-mul-e Inv-loop μ-loop
 mul-e c = search needs
 
-shared-slice-read-e : tie.Need-shared-slice-read-e Inv-loop μ-loop
-shared-slice-read-e c = search needs
+element-copy-out-e : tie.Need-element-copy-out-e Inv-loop μ-loop
+element-copy-out-e c = search needs
 
 mul-e-2 : tie.Need-mul-e-2 Inv-loop μ-loop
 mul-e-2 c = search needs
@@ -73,7 +73,7 @@ loop-less c = search needs
 loop-again : tie.Need-loop-again Inv-loop μ-loop
 loop-again c =
     let h = c .before .before .before .before .before .loop in
-    let a = c .before .before .before .before .before .before .before .before .before .args in
+    let a = c .before .before .before .before .before .before .before .before .args in
     let f : ℕ → Float = copyAt (a .exc .now) (a .lag) (a .decay) in
     let sq : ℕ → Float = λ (k : ℕ). squareAt (a .new .now) (positionAt (a .lag) k) in
     let p : h .pos ≡ positionAt (a .lag) (h .i) = h .inv .3 in
@@ -98,14 +98,14 @@ returns : tie.Need-returns Inv-loop μ-loop
 unfolding periodicCopy copiedEnergy
 returns c =
     let h = c .before .loop in
-    let a = c .before .before .before .before .before .args in
+    let a = c .before .before .before .before .args in
     let f : ℕ → Float = copyAt (a .exc .now) (a .lag) (a .decay) in
     let sq : ℕ → Float = λ (k : ℕ). squareAt (a .new .now) (positionAt (a .lag) k) in
     let q : h .i ≡ length (a .e .now) = search needs in
     (tab-all f nan (a .e .now) (h .e) (h .i) (h .inv .5) (search needs), h .inv .6 ∙ ap (sumTo binary32 sq zero32) q)
 
-pub periodic-copy-spec : {M : Type 1} → statement M
-periodic-copy-spec =
+pub copy-each-spec : {M : Type 1} → statement M
+copy-each-spec =
     tie.close
     (tie.spec
     Inv-loop
@@ -113,7 +113,7 @@ periodic-copy-spec =
     sub-pos
     loop-holds
     mul-e
-    shared-slice-read-e
+    element-copy-out-e
     mul-e-2
     slice-write-e
     mul-tmp

@@ -1,0 +1,2 @@
+-- The last cycle of an excitation repeated.
+pub mod Copy
