@@ -11,7 +11,8 @@ use lib.Ieee.{Float, nan, binary32, mul}
 use borrow.Author.Tests.{eqb-true, leb-true, eq-eqb, le-leb}
 use Rattle.loops.specs.Logic.{and-true}
 use Rattle.loops.specs.Reply.{reply, replyIf, reply-lent}
-use Rattle.buffers.specs.Buffers.{zero32, copied, copied-all}
+use Rattle.buffers.specs.Buffers.{zero32}
+use Rattle.copying.specs.Copy.{copied, copied-all}
 use Rattle.history.specs.History.{half}
 use Rattle.loops.specs.Fold.{foldTo}
 use Rattle.loops.specs.Front.{tab-same}

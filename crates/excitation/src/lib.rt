@@ -37,7 +37,7 @@ pub fn repeat_cycle(
         };
     }
     let mut exc = [0.0f32; HALF];
-    buffers::copy(&mut exc, new);
+    copying::copy(&mut exc, new);
     let period = decay::decay_period(lag);
     // Of the excitation, the last two periods are all that is read.
     let from = HALF - 2 * period;
