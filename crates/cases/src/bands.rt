@@ -3,10 +3,7 @@ use crate::streams;
 
 fn answer_draw() -> bool {
     let seed = streams::read_word();
-    if !seed.whole {
-        return false;
-    }
-    streams::write_word(draw::celt_lcg_rand(seed.value))
+    streams::write_word(draw::celt_lcg_rand(seed))
 }
 
 fn renormalise_front(x: &mut [f32], width: usize) {
@@ -17,10 +14,8 @@ fn renormalise_front(x: &mut [f32], width: usize) {
 fn answer_band() -> bool {
     let width = streams::read_word();
     let mut x = [0.0f32; 176];
-    if !streams::read_floats(&mut x) {
-        return false;
-    }
-    renormalise_front(&mut x, width.value as usize);
+    streams::read_floats(&mut x);
+    renormalise_front(&mut x, width as usize);
     streams::write_floats(&x)
 }
 

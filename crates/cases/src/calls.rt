@@ -66,8 +66,10 @@ pub(crate) fn run(
 
 // Four words 0 for each call from the n-th to the m-th.
 pub(crate) fn write_unused(n: usize, m: usize) {
-    let none = [0u32; 4];
     for i in n..m {
-        streams::write_words(&none);
+        streams::write_word(0);
+        streams::write_word(0);
+        streams::write_word(0);
+        streams::write_word(0);
     }
 }

@@ -7,9 +7,7 @@ use plc_lpc::celt_lpc;
 
 fn answer_autocorr() -> bool {
     let mut x = [0.0f32; 1024];
-    if !streams::read_floats(&mut x) {
-        return false;
-    }
+    streams::read_floats(&mut x);
     let ac = autocorr::celt_autocorr(&x);
     streams::write_floats(&ac)
 }
@@ -18,21 +16,14 @@ fn answer_windowed() -> bool {
     let mut x = [0.0f32; 1024];
     streams::read_floats(&mut x);
     let mut window = [0.0f32; 120];
-    if !streams::read_floats(&mut window) {
-        return false;
-    }
+    streams::read_floats(&mut window);
     let ac = autocorr::celt_autocorr_windowed(&x, &window);
     streams::write_floats(&ac)
 }
 
 fn answer_lpc(ac: &mut [f32], coefficients: &mut [f32]) -> bool {
-    if !streams::read_floats(ac) {
-        return false;
-    }
-    let solved = celt_lpc(coefficients, ac);
-    if !solved.taken {
-        return false;
-    }
+    streams::read_floats(ac);
+    celt_lpc(coefficients, ac);
     streams::write_floats(coefficients)
 }
 
@@ -52,12 +43,8 @@ fn answer_fir(num: &mut [f32], mem: &mut [f32]) -> bool {
     let mut x = [0.0f32; 1024];
     streams::read_floats(&mut x);
     streams::read_floats(num);
-    if !streams::read_floats(mem) {
-        return false;
-    }
-    if !celt_fir_inplace(&mut x, num, mem) {
-        return false;
-    }
+    streams::read_floats(mem);
+    celt_fir_inplace(&mut x, num, mem);
     streams::write_floats(&x)
 }
 
@@ -80,9 +67,9 @@ fn answer_fir_1() -> bool {
 }
 
 // Filters the first n samples; the rest stays.
-fn filter_front(x: &mut [f32], n: usize, den: &[f32; 24], mem: &[f32; 24]) -> bool {
+fn filter_front(x: &mut [f32], n: usize, den: &[f32; 24], mem: &[f32; 24]) {
     let end = streams::at_most(n, x.len());
-    celt_iir_inplace(&mut x[..end], den, mem)
+    celt_iir_inplace(&mut x[..end], den, mem);
 }
 
 fn answer_iir() -> bool {
@@ -92,12 +79,8 @@ fn answer_iir() -> bool {
     let mut den = [0.0f32; 24];
     streams::read_floats(&mut den);
     let mut mem = [0.0f32; 24];
-    if !streams::read_floats(&mut mem) {
-        return false;
-    }
-    if !filter_front(&mut x, n.value as usize, &den, &mem) {
-        return false;
-    }
+    streams::read_floats(&mut mem);
+    filter_front(&mut x, n as usize, &den, &mem);
     streams::write_floats(&x)
 }
 

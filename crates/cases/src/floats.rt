@@ -38,17 +38,11 @@ fn answer_two(op: u32, x: u32, y: u32) -> bool {
 
 pub(crate) fn answer(op: u32) -> bool {
     let x = streams::read_word();
-    if !x.whole {
-        return false;
-    }
     match op {
-        103 | 105 | 106 | 107 => answer_one(op, x.value),
+        103 | 105 | 106 | 107 => answer_one(op, x),
         _ => {
             let y = streams::read_word();
-            if !y.whole {
-                return false;
-            }
-            answer_two(op, x.value, y.value)
+            answer_two(op, x, y)
         }
     }
 }

@@ -31,40 +31,34 @@ fn stereo(
     deemphasis_stereo(&v[..first], &w[..second], memories, downsample, pcm)
 }
 
-// Three words ahead of a case's floats: lm, channels and downsample.
-fn sound(k: [u32; 3], v: &[f32], w: &[f32], memories: [f32; 2], pcm: &mut [f32]) -> Deemphasised {
-    let n = frame_size(k[0]);
-    let downsample = k[2] as usize;
-    if k[1] == 2 {
+// A frame of one channel or of two.
+fn sound(
+    channels: u32,
+    v: &[f32],
+    w: &[f32],
+    n: usize,
+    memories: [f32; 2],
+    downsample: usize,
+    pcm: &mut [f32],
+) -> Deemphasised {
+    if channels == 2 {
         return stereo(v, w, n, memories, downsample, pcm);
     }
     mono(v, n, memories, downsample, pcm)
 }
 
-// A cut case is refused too.
-fn read_sound(k: [u32; 3], memories: [f32; 2], pcm: &mut [f32]) -> Deemphasised {
+// Three words ahead of the floats: lm, channels and downsample.
+fn answer_frame() -> bool {
+    let n = frame_size(streams::read_word());
+    let channels = streams::read_word();
+    let downsample = streams::read_word() as usize;
+    let memories = [streams::read_float(), streams::read_float()];
     let mut v = [0.0f32; 960];
     streams::read_floats(&mut v);
     let mut w = [0.0f32; 960];
-    if streams::read_floats(&mut w) {
-        return sound(k, &v, &w, memories, pcm);
-    }
-    Deemphasised {
-        taken: false,
-        memories: memories,
-    }
-}
-
-fn answer_frame() -> bool {
-    let mut k = [0u32; 3];
-    streams::read_words(&mut k);
-    let mut memories = [0.0f32; 2];
-    streams::read_floats(&mut memories);
+    streams::read_floats(&mut w);
     let mut pcm = [0.0f32; 1920];
-    let r = read_sound(k, memories, &mut pcm);
-    if !r.taken {
-        return false;
-    }
+    let r = sound(channels, &v, &w, n, memories, downsample, &mut pcm);
     streams::write_floats(&pcm);
     let after = r.memories;
     streams::write_floats(&after)

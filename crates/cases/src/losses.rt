@@ -6,12 +6,6 @@ use state::State;
 // The bytes of a state that op 1003 gives; all past them are 0.
 const HEAD: usize = 44;
 
-// One call on a record's state, lent the first n samples of its history.
-fn call(b: &[u8], h: &mut [f32], n: u32, pcm: &mut [f32], p: u32) -> State {
-    words::floats_at(b, record::HISTORY, h);
-    calls::call_front(record::read_state(b), h, n, pcm, p)
-}
-
 // The record after a call.
 fn write_after(b: &mut [u8], s: State, h: &[f32]) -> bool {
     let end = streams::at_most(history::WHOLE, h.len());
@@ -23,12 +17,11 @@ fn answer_call() -> bool {
     let p = streams::read_word();
     let n = streams::read_word();
     let mut b = [0u8; record::BYTES];
-    if !streams::read_bytes(&mut b, record::BYTES) {
-        return false;
-    }
+    streams::read_bytes(&mut b, record::BYTES);
     let mut h = [0.0f32; history::WHOLE + 1];
+    words::floats_at(&b, record::HISTORY, &mut h);
     let mut pcm = [0.0f32; 2000];
-    let s = call(&b, &mut h, n.value, &mut pcm, p.value);
+    let s = calls::call_front(record::read_state(&b), &mut h, n, &mut pcm, p);
     streams::write_floats(&pcm);
     write_after(&mut b, s, &h)
 }
@@ -48,22 +41,19 @@ fn answer_run() -> bool {
     let mut lengths = [0u32; 16];
     streams::read_words(&mut lengths);
     let mut b = [0u8; record::BYTES];
-    if !streams::read_bytes(&mut b, record::BYTES) {
-        return false;
-    }
-    run(&mut b, &lengths, n.value as usize)
+    streams::read_bytes(&mut b, record::BYTES);
+    run(&mut b, &lengths, n as usize)
 }
 
 fn answer_silent() -> bool {
     let p = streams::read_word();
     let n = streams::read_word();
     let mut b = [0u8; record::BYTES];
-    if !streams::read_bytes(&mut b, HEAD) {
-        return false;
-    }
+    streams::read_bytes(&mut b, HEAD);
     let mut h = [0.0f32; history::WHOLE + 1];
+    words::floats_at(&b, record::HISTORY, &mut h);
     let mut pcm = [0.0f32; 2000];
-    let s = call(&b, &mut h, n.value, &mut pcm, p.value);
+    let s = calls::call_front(record::read_state(&b), &mut h, n, &mut pcm, p);
     streams::write_word(s.loss_count);
     streams::write_word(s.seed);
     streams::write_word(s.lag)

@@ -1,6 +1,6 @@
 // Answers cases by their op's number: an op word, then that op's words, and out its answer's words.
-// Each module holds the ops of one hundred. The program stops at the end of the input, at a cut case
-// and at an op that it does not know.
+// Each module holds the ops of one hundred. The program stops at the end of the input and at an op
+// that it does not know; what a cut case lacks counts as 0.
 mod bands;
 mod calls;
 mod filters;
@@ -16,7 +16,7 @@ mod transform;
 
 // One case; false where there is no more to answer.
 fn answer() -> bool {
-    let op = streams::read_word();
+    let op = streams::next_word();
     if !op.whole {
         return false;
     }

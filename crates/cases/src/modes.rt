@@ -3,17 +3,11 @@ use crate::streams;
 use custom_mode::rate;
 use custom_mode::rate::Factor;
 use custom_mode::standard;
-use float_bits::words::f32_from_word;
 
 fn answer_gain() -> bool {
-    let energy = streams::read_word();
-    let mean = streams::read_word();
-    if !mean.whole {
-        return false;
-    }
-    let e = f32_from_word(energy.value);
-    let m = f32_from_word(mean.value);
-    streams::write_float(band_gain::band_gain(e, m))
+    let energy = streams::read_float();
+    let mean = streams::read_float();
+    streams::write_float(band_gain::band_gain(energy, mean))
 }
 
 // 0 for none
@@ -26,14 +20,11 @@ fn write_factor(f: Factor) -> bool {
 
 fn answer_one(op: u32) -> bool {
     let x = streams::read_word();
-    if !x.whole {
-        return false;
-    }
     match op {
-        502 => write_factor(rate::resampling_factor(x.value)),
-        503 => streams::write_double(powers::power_at(x.value as u64)),
-        504 => streams::write_float(standard::mean_energy(x.value as usize)),
-        505 => streams::write_number(standard::band_edge(x.value as usize)),
+        502 => write_factor(rate::resampling_factor(x)),
+        503 => streams::write_double(powers::power_at(x as u64)),
+        504 => streams::write_float(standard::mean_energy(x as usize)),
+        505 => streams::write_number(standard::band_edge(x as usize)),
         _ => false,
     }
 }

@@ -9,14 +9,9 @@ use plc_search::pitch_search;
 
 fn answer_mono() -> bool {
     let mut x = [0.0f32; 2048];
-    if !streams::read_floats(&mut x) {
-        return false;
-    }
+    streams::read_floats(&mut x);
     let mut out = [0.0f32; 1024];
-    let r = pitch_downsample(&x, &mut out);
-    if !r.taken {
-        return false;
-    }
+    pitch_downsample(&x, &mut out);
     streams::write_floats(&out)
 }
 
@@ -24,14 +19,9 @@ fn answer_pair() -> bool {
     let mut x0 = [0.0f32; 2048];
     streams::read_floats(&mut x0);
     let mut x1 = [0.0f32; 2048];
-    if !streams::read_floats(&mut x1) {
-        return false;
-    }
+    streams::read_floats(&mut x1);
     let mut out = [0.0f32; 1024];
-    let r = pitch_downsample_pair(&x0, &x1, &mut out);
-    if !r.taken {
-        return false;
-    }
+    pitch_downsample_pair(&x0, &x1, &mut out);
     streams::write_floats(&out)
 }
 
@@ -49,9 +39,7 @@ fn answer_best_coarse() -> bool {
     let mut xcorr = [0.0f32; 155];
     streams::read_floats(&mut xcorr);
     let mut y = [0.0f32; 487];
-    if !streams::read_floats(&mut y) {
-        return false;
-    }
+    streams::read_floats(&mut y);
     write_pitches(find_best_pitch(&xcorr, &y, 332, 155))
 }
 
@@ -59,38 +47,28 @@ fn answer_best_fine() -> bool {
     let mut xcorr = [0.0f32; 310];
     streams::read_floats(&mut xcorr);
     let mut y = [0.0f32; 1024];
-    if !streams::read_floats(&mut y) {
-        return false;
-    }
+    streams::read_floats(&mut y);
     write_pitches(find_best_pitch(&xcorr, &y, 664, 310))
 }
 
 fn answer_search() -> bool {
     let mut y = [0.0f32; 1024];
-    if !streams::read_floats(&mut y) {
-        return false;
-    }
+    streams::read_floats(&mut y);
     streams::write_number(pitch_search(&y))
 }
 
 // The samples of each used channel, without its overlap.
-fn read_samples(two: bool, history: &mut [f32]) -> bool {
+fn read_samples(two: bool, history: &mut [f32]) {
+    streams::read_part(history, 0, history::SAMPLES);
     if two {
-        streams::read_part(history, 0, history::SAMPLES);
-        return streams::read_part(
-            history,
-            history::CHANNEL,
-            history::CHANNEL + history::SAMPLES,
-        );
+        let last = history::CHANNEL + history::SAMPLES;
+        streams::read_part(history, history::CHANNEL, last);
     }
-    streams::read_part(history, 0, history::SAMPLES)
 }
 
 fn answer_lag(two: bool) -> bool {
     let mut h = [0.0f32; history::WHOLE];
-    if !read_samples(two, &mut h) {
-        return false;
-    }
+    read_samples(two, &mut h);
     let found = find_lag(two, &h);
     streams::write_word(found.lag)
 }

@@ -1,5 +1,5 @@
-// Words and floats on standard input and output. Where the input ends, or the output takes no more, what is read or
-// written after it ends too: of several in a row the last tells of all.
+// Words and floats on standard input and output. What is read past the end of the input is 0. Where the output takes no
+// more, what is written after it ends too: of several in a row the last tells of all.
 use float_bits::words::f32_from_word;
 use float_bits::words::f32_to_word;
 ghost use Prim.Native.Nat.{_≤_};
@@ -10,13 +10,18 @@ pub(crate) struct Word {
     pub whole: bool,
 }
 
-pub(crate) fn read_word() -> Word {
+pub(crate) fn next_word() -> Word {
     let mut b = [0u8; 4];
     let n = io::read_full(libc::STDIN_FILENO, &mut b);
     Word {
         value: words::word_at(&b, 0),
         whole: n == 4,
     }
+}
+
+pub(crate) fn read_word() -> u32 {
+    let w = next_word();
+    w.value
 }
 
 // False where the output takes no more.
@@ -56,40 +61,22 @@ pub(crate) fn write_double(x: f64) -> bool {
     write_word((bits / 0x1_0000_0000) as u32)
 }
 
-// False where the input ended before x was full.
-pub(crate) fn read_words(x: &mut [u32]) -> bool {
-    let n = x.len();
-    for i in 0..n {
-        let w = read_word();
-        if !w.whole {
-            return false;
-        }
-        x[i] = w.value;
-    }
-    true
+pub(crate) fn read_float() -> f32 {
+    f32_from_word(read_word())
 }
 
-pub(crate) fn write_words(x: &[u32]) -> bool {
+pub(crate) fn read_words(x: &mut [u32]) {
     let n = x.len();
     for i in 0..n {
-        if !write_word(x[i]) {
-            return false;
-        }
+        x[i] = read_word();
     }
-    true
 }
 
-// False where the input ended before x was full.
-pub(crate) fn read_floats(x: &mut [f32]) -> bool {
+pub(crate) fn read_floats(x: &mut [f32]) {
     let n = x.len();
     for i in 0..n {
-        let w = read_word();
-        if !w.whole {
-            return false;
-        }
-        x[i] = f32_from_word(w.value);
+        x[i] = read_float();
     }
-    true
 }
 
 pub(crate) fn write_floats(x: &[f32]) -> bool {
@@ -110,10 +97,10 @@ pub(crate) fn at_most(n: usize, most: usize) -> usize
 }
 
 // The values of x from one place to another.
-pub(crate) fn read_part(x: &mut [f32], from: usize, to: usize) -> bool {
+pub(crate) fn read_part(x: &mut [f32], from: usize, to: usize) {
     let end = at_most(to, x.len());
     let begin = at_most(from, end);
-    read_floats(&mut x[begin..end])
+    read_floats(&mut x[begin..end]);
 }
 
 // The first n of x.
@@ -123,9 +110,9 @@ pub(crate) fn write_first(x: &[f32], n: usize) -> bool {
 }
 
 // The first n bytes of b.
-pub(crate) fn read_bytes(b: &mut [u8], n: usize) -> bool {
+pub(crate) fn read_bytes(b: &mut [u8], n: usize) {
     let end = at_most(n, b.len());
-    io::read_full(libc::STDIN_FILENO, &mut b[..end]) == end
+    io::read_full(libc::STDIN_FILENO, &mut b[..end]);
 }
 
 pub(crate) fn write_bytes(b: &[u8]) -> bool {

@@ -6,9 +6,8 @@ use mdct::imdct;
 use sizes::frame_size;
 
 fn answer_window() -> bool {
-    let i = streams::read_word();
-    let at = i.value as usize;
-    if !i.whole || 119 < at {
+    let at = streams::read_word() as usize;
+    if 119 < at {
         return false;
     }
     let w = window();
@@ -18,17 +17,13 @@ fn answer_window() -> bool {
 fn answer_long_window() -> bool {
     let lm = streams::read_word();
     let j = streams::read_word();
-    if !j.whole {
-        return false;
-    }
     let w = window();
-    streams::write_float(low_overlap_window(&w, frame_size(lm.value), j.value as usize))
+    streams::write_float(low_overlap_window(&w, frame_size(lm), j as usize))
 }
 
 fn answer_cosine() -> bool {
-    let j = streams::read_word();
-    let at = j.value as usize;
-    if !j.whole || 1920 < at {
+    let at = streams::read_word() as usize;
+    if 1920 < at {
         return false;
     }
     let c = cosine_table::cosines();
@@ -36,21 +31,17 @@ fn answer_cosine() -> bool {
 }
 
 // The first n bins summed to the first m samples.
-fn sum(spectrum: &[f32], n: usize, out: &mut [f32], m: usize) -> bool {
+fn sum(spectrum: &[f32], n: usize, out: &mut [f32], m: usize) {
     let bins = streams::at_most(n, spectrum.len());
     let samples = streams::at_most(m, out.len());
-    imdct::imdct_naive_f32(&spectrum[..bins], &mut out[..samples])
+    imdct::imdct_naive_f32(&spectrum[..bins], &mut out[..samples]);
 }
 
 fn answer_sum(n: usize, m: usize) -> bool {
     let mut spectrum = [0.0f32; 960];
-    if !streams::read_part(&mut spectrum, 0, n) {
-        return false;
-    }
+    streams::read_part(&mut spectrum, 0, n);
     let mut out = [0.0f32; 1920];
-    if !sum(&spectrum, n, &mut out, m) {
-        return false;
-    }
+    sum(&spectrum, n, &mut out, m);
     streams::write_first(&out, m)
 }
 

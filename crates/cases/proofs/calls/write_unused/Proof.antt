@@ -4,19 +4,25 @@ use Rattle.cases.proofs.calls.write_unused.Statement.{statement}
 use Rattle.cases.proofs.calls.write_unused.Tie as tie
 
 abbrev Inv-loop : tie.InvT-loop
-Inv-loop n m none i₀ i = Unit {0}
+Inv-loop n m i₀ i = Unit {0}
 
 abbrev μ-loop : tie.MeasureT-loop
-μ-loop n m none i₀ i = m - i
+μ-loop n m i₀ i = m - i
 
 loop-holds : tie.Need-loop-holds Inv-loop μ-loop
 loop-holds c = tt
 
-slice-aggregate-write-words : tie.Need-slice-aggregate-write-words Inv-loop μ-loop
-slice-aggregate-write-words c = search needs
+write-word-requires : tie.Need-write-word-requires Inv-loop μ-loop
+write-word-requires c κs = search needs
 
-write-words-requires : tie.Need-write-words-requires Inv-loop μ-loop
-write-words-requires c κs = search needs
+write-word-requires-2 : tie.Need-write-word-requires-2 Inv-loop μ-loop
+write-word-requires-2 c κs = search needs
+
+write-word-requires-3 : tie.Need-write-word-requires-3 Inv-loop μ-loop
+write-word-requires-3 c κs = search needs
+
+write-word-requires-4 : tie.Need-write-word-requires-4 Inv-loop μ-loop
+write-word-requires-4 c κs = search needs
 
 add-i : tie.Need-add-i Inv-loop μ-loop
 add-i c = search needs
@@ -37,8 +43,10 @@ write-unused-spec =
     Inv-loop
     μ-loop
     loop-holds
-    slice-aggregate-write-words
-    write-words-requires
+    write-word-requires
+    write-word-requires-2
+    write-word-requires-3
+    write-word-requires-4
     add-i
     loop-less
     loop-again

@@ -4,9 +4,6 @@ use borrow.Author.Needs.{needs}
 use Rattle.cases.proofs.noise.draw.Statement.{statement}
 use Rattle.cases.proofs.noise.draw.Tie as tie
 
-array-read-block-size : tie.Need-array-read-block-size
-array-read-block-size c = search needs
-
 block-size-requires : tie.Need-block-size-requires
 block-size-requires c κs = search needs
 
@@ -19,32 +16,17 @@ slice-relend-prefix-noise-block c = search needs
 slice-aggregate-noise-block : tie.Need-slice-aggregate-noise-block
 slice-aggregate-noise-block c = sym (length-take-le _ _ (search needs))
 
-array-read-noise-block : tie.Need-array-read-noise-block
-array-read-noise-block c = search needs
-
 cast-noise-block : tie.Need-cast-noise-block
 cast-noise-block c = search needs
-
-array-read-noise-block-2 : tie.Need-array-read-noise-block-2
-array-read-noise-block-2 c = search needs
 
 cast-noise-block-2 : tie.Need-cast-noise-block-2
 cast-noise-block-2 c = search needs
 
-array-read-noise-block-3 : tie.Need-array-read-noise-block-3
-array-read-noise-block-3 c = search needs
-
 cast-noise-block-3 : tie.Need-cast-noise-block-3
 cast-noise-block-3 c = search needs
 
-array-read-noise-block-4 : tie.Need-array-read-noise-block-4
-array-read-noise-block-4 c = search needs
-
 cast-noise-block-4 : tie.Need-cast-noise-block-4
 cast-noise-block-4 c = search needs
-
-array-read-noise-block-5 : tie.Need-array-read-noise-block-5
-array-read-noise-block-5 c = search needs
 
 noise-block-requires : tie.Need-noise-block-requires
 noise-block-requires c κs = search needs
@@ -59,20 +41,14 @@ pub draw-spec : {M : Type 1} → statement M
 draw-spec =
     tie.close
     (tie.spec
-    array-read-block-size
     block-size-requires
     at-most-requires
     slice-relend-prefix-noise-block
     slice-aggregate-noise-block
-    array-read-noise-block
     cast-noise-block
-    array-read-noise-block-2
     cast-noise-block-2
-    array-read-noise-block-3
     cast-noise-block-3
-    array-read-noise-block-4
     cast-noise-block-4
-    array-read-noise-block-5
     noise-block-requires
     same-length
     returns)
