@@ -8,7 +8,8 @@ use native.Mathlib.Nat.{le-of-suc-le-suc, not-suc-le-zero}
 use lib.Dec.{T, leb, ltb, ltb→lt, leb→le}
 use lib.ListN.{length, getD}
 use lib.Ieee.{nan, ofBits}
-use Rattle.cosine_table.specs.Scaled.{scaled, isScaled, getD-scaled, every, every-at}
+use Rattle.loops.specs.Every.{every, every-at}
+use Rattle.cosine_table.specs.Scaled.{scaled, isScaled, getD-scaled}
 use Rattle.celt_window.specs.Window.{windowBits, window, length-window}
 
 -- entry i times 2 ^ 36

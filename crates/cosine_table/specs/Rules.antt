@@ -9,8 +9,9 @@ use lib.Dec.{T, leb, ltb, ltb→lt, leb→le}
 use lib.IntN.{pos}
 use lib.ListN.{length, getD}
 use lib.Ieee.{nan, fin, ofBits}
+use Rattle.loops.specs.Every.{andThen, andThen-left, andThen-right, every, every-at}
 use Rattle.cosine_table.specs.Cosines.{cosineBits, cosines, length-cosines}
-use Rattle.cosine_table.specs.Scaled.{scaled, isScaled, getD-scaled, andThen, andThen-left, andThen-right, every, every-at}
+use Rattle.cosine_table.specs.Scaled.{scaled, isScaled, getD-scaled}
 
 -- entry j times 2 ^ 63
 abbrev pub scaledCosine : ℕ → ℕ

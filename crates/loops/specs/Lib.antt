@@ -6,5 +6,6 @@ pub mod Sum
 pub mod Pick
 pub mod Logic
 pub mod Below
+pub mod Every
 pub mod Reply
 pub mod Nan
