@@ -1,7 +1,7 @@
 -- What the concealment program writes for what it reads.
 use mathlib.Core.Bool.{Bool, cond, _&&_}
 use mathlib.Core.List.{List, [], _∷_, _++_}
-use Prim.Native.Nat.{ℕ, zero, suc, _+_, _/_}
+use Prim.Native.Nat.{ℕ, zero, suc, _/_}
 use lib.ListN.{length, take, drop}
 use lib.Dec.{leb, eqb}
 use Rattle.loss.specs.Loss.{Outcome, loss}

@@ -1,7 +1,7 @@
 -- A part of a list that is replaced: what a part of a `&mut` slice leaves when it comes back.
 use mathlib.Core.Path.{_≡_, ap, _∙_, sym}
 use mathlib.Core.List.{List, _++_}
-use Prim.Native.Nat.{ℕ, _+_, _-_, _≤_}
+use Prim.Native.Nat.{ℕ, _+_, _≤_}
 use native.Mathlib.Omega.{arith}
 use lib.ListN.{length, take, drop, length-append, length-drop, take-append-drop}
 use lib.Seq.{slice, length-take-le, take-at, drop-at, drop-append-le, drop-drop}

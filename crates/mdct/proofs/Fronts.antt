@@ -5,7 +5,7 @@ use Prim.Native.Nat.{ℕ, zero, suc, _+_, _<_}
 use native.Mathlib.Omega.{arith}
 use native.Mathlib.Numerals.{add-one}
 use native.Mathlib.Nat.{add-zero, add-suc}
-use lib.ListN.{length, getD, set, take, drop, length-append, take-append-drop, replicate, length-replicate, getD-replicate}
+use lib.ListN.{length, set, take, drop, length-append, take-append-drop, replicate, length-replicate, getD-replicate}
 use lib.Seq.{length-take-le, take-at, drop-at, drop-drop, ext-getD}
 use Rattle.loops.specs.Front.{front, front-write, tab, length-tab, getD-tab}
 

@@ -2,7 +2,7 @@
 use mathlib.Core.Path.{_≡_, ap, _∙_, sym}
 use mathlib.Core.Bool.{Bool, true, false}
 use mathlib.Core.List.{List}
-use Prim.Native.Nat.{ℕ, _+_, _-_, _/_, _≤_}
+use Prim.Native.Nat.{ℕ, _+_, _/_, _≤_}
 use lib.Ieee.{Float, nan, binary32, sub, mul, lt}
 use lib.ListN.{getD, set, replicate}
 use Rattle.loops.specs.Fold.{foldTo, fold-suc, fold-none}

@@ -1,4 +1,3 @@
-use Prim.Native.Nat.{_-_}
 use borrow.Author.Needs.{needs}
 use Rattle.noise_block.proofs.Calls.{factor-is, factor-in}
 use Rattle.noise_block.proofs.factor.Statement.{statement}

@@ -1,6 +1,6 @@
 use mathlib.Core.Path.{_≡_, _∙_, sym}
 use mathlib.Core.Bool.{true}
-use Prim.Native.Nat.{_-_, _*_}
+use Prim.Native.Nat.{_*_}
 use native.Mathlib.Omega.{arith}
 use borrow.Author.Needs.{needs}
 use Rattle.cosine_circle.specs.Circle.{isFrameSize}

@@ -1,4 +1,3 @@
-use Prim.Native.Nat.{_-_}
 use borrow.Author.Tests.{lt-ltb, le-ltb, lt-leb, le-leb}
 use Rattle.noise_block.specs.Call.{settingsFit}
 use Rattle.noise_block.proofs.settings_fit.Statement.{statement}

@@ -1,4 +1,4 @@
-use Prim.Native.Nat.{_-_, _/_, _%_}
+use Prim.Native.Nat.{_/_, _%_}
 use borrow.Author.Tests.{lt-ltb, le-ltb, lt-leb, le-leb}
 use Rattle.noise_energies.specs.Energies.{drops}
 use Rattle.noise_energies.proofs.dropped.Statement.{statement}

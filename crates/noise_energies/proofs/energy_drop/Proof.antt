@@ -1,4 +1,3 @@
-use Prim.Native.Nat.{_-_}
 use borrow.Author.Tests.{eq-eqb, ne-eqb}
 use Rattle.noise_energies.specs.Energies.{energyDrop}
 use Rattle.noise_energies.proofs.energy_drop.Statement.{statement}

@@ -1,4 +1,3 @@
-use Prim.Native.Nat.{_-_}
 use borrow.Author.Tests.{lt-leb, le-leb}
 use Rattle.noise_energies.specs.Energies.{readEnergies}
 use Rattle.noise_energies.proofs.read_energies.Statement.{statement}

@@ -1,5 +1,4 @@
 use mathlib.Core.Path.{_∙_, sym}
-use Prim.Native.Nat.{_-_}
 use native.Mathlib.Omega.{arith}
 use borrow.Author.Needs.{needs}
 use Rattle.noise_spectrum.proofs.Calls.{fits, spectrum-taken, spectrum-unfit, spectrum-bands, spectrum-size}

@@ -1,4 +1,3 @@
-use Prim.Native.Nat.{_-_}
 use borrow.Author.Tests.{lt-leb, le-leb}
 use Rattle.noise_spectrum.specs.Spectrum.{spectrumFits}
 use Rattle.noise_spectrum.proofs.spectrum_fits.Statement.{statement}

@@ -1,5 +1,4 @@
 -- The memory stands before place 24 and the samples from it on.
-use Prim.Native.Nat.{_-_}
 use borrow.Author.Needs.{needs}
 use Rattle.buffers.specs.Buffers.{zero32}
 use Rattle.plc_pad.proofs.Taps.{remembers-all}

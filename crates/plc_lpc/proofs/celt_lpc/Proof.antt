@@ -1,6 +1,6 @@
 -- Each refusal by its test.
 use mathlib.Core.Path.{refl}
-use Prim.Native.Nat.{_+_, _-_}
+use Prim.Native.Nat.{_+_}
 use native.Mathlib.Omega.{arith}
 use lib.ListN.{length}
 use borrow.Author.Needs.{needs}
