@@ -32,13 +32,13 @@ combAt x i t g0 g1 g2 =
 unfoldable pub combFilterTo : List Float → ℕ → Float → Float → Float → List Float
 combFilterTo x t g0 g1 g2 = tab (λ (i : ℕ). combAt x (half + i) t g0 g1 g2) overlap
 
-pub length-combFilterTo : (x : List Float) (t : ℕ) (g0 g1 g2 : Float) → length (combFilterTo x t g0 g1 g2) ≡ overlap
-unfolding combFilterTo
-length-combFilterTo x t g0 g1 g2 = length-tab _ overlap
-
 -- the same by a filter's setting
 unfoldable pub combFiltered : Filter → List Float → List Float
 combFiltered f x = combFilterTo x (f .period) (tapGain f 0) (tapGain f 1) (tapGain f 2)
+
+pub length-combFiltered : (f : Filter) (x : List Float) → length (combFiltered f x) ≡ overlap
+unfolding combFiltered combFilterTo
+length-combFiltered f x = length-tab _ overlap
 
 -- how many samples are written and read, and which setting is taken
 unfoldable pub combTakes : ℕ → ℕ → Filter → Bool

@@ -16,7 +16,7 @@ use Rattle.draw.specs.Draw.{draw, draws, draw-word}
 use Rattle.history.specs.History.{half, overlap, channel, Tail, Tails, withTails}
 use Rattle.celt_window.specs.Window.{window}
 use Rattle.post_filter.specs.declared.Filter.{Filter}
-use Rattle.comb_filter.specs.Comb.{combAt, combFilterTo, tapGain}
+use Rattle.comb_filter.specs.Comb.{combAt, combFilterTo, combFiltered, tapGain}
 use Rattle.prefilter.specs.Prefilter.{skips, preFiltered}
 use Rattle.plc_lpc.specs.Lpc.{Lpc, crossed, reflection, lpcWith, lpcTurn, lpcTo, celtLpc}
 use Rattle.plc_iir.specs.Iir.{iirAt, iirTo, celtIir}
@@ -120,15 +120,14 @@ comb-single : (x : List Float) (i t : ℕ) (g0 g1 g2 : Float) → Single (combAt
 unfolding combAt
 comb-single x i t g0 g1 g2 = add-fits binary32 _ _
 
-filter-single : (x : List Float) (t : ℕ) (g0 g1 g2 : Float) → AllSingle (combFilterTo x t g0 g1 g2)
-unfolding combFilterTo
-filter-single x t g0 g1 g2 = all-tab _ overlap (λ i. comb-single x (half + i) t g0 g1 g2)
+filter-single : (f : Filter) (x : List Float) → AllSingle (combFiltered f x)
+unfolding combFiltered combFilterTo
+filter-single f x = all-tab _ overlap (λ i. comb-single x (half + i) (f .period) (tapGain f 0) (tapGain f 1) (tapGain f 2))
 
 pre-single : (f : Filter) (new over : List Float) → AllSingle over → AllSingle (preFiltered f new over)
 unfolding preFiltered
 pre-single f new over a =
-    all-cond (skips (f .gain)) over (combFilterTo (new ++ over) (f .period) (tapGain f 0) (tapGain f 1) (tapGain f 2)) a
-    (filter-single (new ++ over) (f .period) (tapGain f 0) (tapGain f 1) (tapGain f 2))
+    all-cond (skips (f .gain)) over (combFiltered f (new ++ over)) a (filter-single f (new ++ over))
 
 folded-single : (w x : List Float) → AllSingle (folded w x)
 unfolding folded foldAt

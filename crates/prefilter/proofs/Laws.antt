@@ -16,7 +16,7 @@ use Rattle.copying.specs.Copy.{copied, copied-all}
 use Rattle.post_filter.specs.declared.Filter.{Filter}
 use Rattle.post_filter.specs.Limits.{filterFits}
 use Rattle.history.specs.History.{half, overlap}
-use Rattle.comb_filter.specs.Comb.{combFiltered, combTakes, length-combFilterTo}
+use Rattle.comb_filter.specs.Comb.{combFiltered, combTakes, length-combFiltered}
 use Rattle.prefilter.specs.Prefilter.{skips, preFiltered, preFilteredEnd}
 
 -- a gain of zero leaves all
@@ -35,12 +35,12 @@ filtered-is f t z pre b l n h p =
 pub pre-put : (f : Filter) (t pre y : List Float) (k : ℕ) → skips (f .gain) ≡ false → length t ≡ half + overlap → filterFits f ≡ true → k ≡ length t - half
     → (b : Bool) (z : List Float) → length z ≡ overlap → reply b pre ≡ replyIf (combTakes (length z) (length t) f) (combFiltered f t) z → y ≡ copied pre (take k (drop half t))
     → take half t ++ (y ++ drop k (drop half t)) ≡ preFilteredEnd f t
-unfolding preFiltered preFilteredEnd combFiltered
+unfolding preFiltered preFilteredEnd
 pre-put f t pre y k e n h q b z lz pz c =
     let p = filtered-is f t z pre b lz n h pz in
     let l : length (drop half t) ≤ k = omega (arith, length-drop half t) in
     let s : t ≡ take half t ++ drop half t = sym (take-append-drop half t) in
-    let m : length pre ≡ overlap = ap length p ∙ length-combFilterTo _ _ _ _ _ in
+    let m : length pre ≡ overlap = ap length p ∙ length-combFiltered f t in
     let d : length pre ≡ length (take k (drop half t)) = omega (arith, length-drop half t, length-take-le k (drop half t) (omega (arith, length-drop half t))) in
     let w : y ≡ pre = c ∙ copied-all pre (take k (drop half t)) d in
     ap (λ z. take half t ++ (y ++ z)) (drop-of-length-le (drop half t) {i = k} l)
