@@ -10,10 +10,10 @@ use lib.Ieee.{Float}
 use borrow.Author.Tests.{eq-eqb, ne-eqb, le-leb, lt-leb}
 use Rattle.loops.specs.Front.{front}
 use Rattle.loops.specs.Logic.{and-both, and-first, and-second, cond-either}
-use Rattle.loops.specs.Part.{put}
+use Rattle.loops.specs.Part.{put, put-front, put-next}
 use Rattle.loops.specs.Pick.{pick-true, pick-false}
 use Rattle.words.specs.Bytes.{wordsBytes, floatsBytes}
-use Rattle.words.proofs.Laws.{length-bytes, put-front, put-next}
+use Rattle.words.proofs.Laws.{length-bytes}
 use Rattle.answer_head.specs.Head.{samplesMost, reportLength, headMost, cutOf, Headed, headed, headedBy, headFits, headWritten, answerTail}
 
 -- three words, and then the samples

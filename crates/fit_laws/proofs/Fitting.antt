@@ -28,8 +28,8 @@ use Rattle.loss.proofs.Fields.{made-lag}
 use Rattle.loss.proofs.Keep.{after-length}
 use Rattle.loss.proofs.Laws.{block-draws}
 use Rattle.loss.proofs.Lags.{lag-high}
-use Rattle.record.specs.Record.{headWords}
-use Rattle.record_laws.specs.RoundTrip.{Fit}
+use Rattle.state_words.specs.Words.{headWords}
+use Rattle.record_laws.specs.StateBack.{Fit}
 use Rattle.fit_laws.specs.Values.{AllSingle, all-index, index-all, all-slice, all-cond}
 use Rattle.fit_laws.proofs.Steps.{lowered-single, memories-single, fitted-single, TailsSingle, pitches-single, noises-single, with-single, draws-word}
 

@@ -1,0 +1,238 @@
+/* test RECORDS: holds the direct call to the record's on every record of a file, and to its own
+   promises: a refusal leaves everything, the rest of a longer buffer stays, threads do not meet.
+   Prints what it did; exits with 1 at the first thing that is not so. */
+#include <pthread.h>
+#include <stdio.h>
+#include <stdlib.h>
+#include <string.h>
+
+#include "vikkozhan.h"
+
+#define THREADS 16
+#define ROUNDS 4 /* how often each thread goes through its records */
+
+typedef struct Decoder {
+    VikkozhanState state;
+    float history[VIKKOZHAN_HISTORY_SAMPLES];
+} Decoder;
+
+static void check(int so, const char *what) {
+    if (!so) {
+        fprintf(stderr, "not so: %s\n", what);
+        exit(1);
+    }
+}
+
+/* A float's word as the file has it: every NaN is 7FC00000. */
+static uint32_t word(float x) {
+    uint32_t w;
+    memcpy(&w, &x, sizeof w);
+    return x != x ? 0x7fc00000u : w;
+}
+
+static void words(uint8_t *out, const float *x, size_t n) {
+    for (size_t i = 0; i < n; i++) {
+        uint32_t w = word(x[i]);
+        memcpy(out + 4 * i, &w, sizeof w);
+    }
+}
+
+/* A decoder as the file has it. Its bytes lie in the same order; only NaN is written anew. */
+static void write_record(uint8_t *record, const Decoder *d) {
+    memcpy(record, &d->state, sizeof d->state);
+    words(record + offsetof(VikkozhanState, filter_gain), &d->state.filter_gain, 1);
+    words(record + offsetof(VikkozhanState, coarse), d->state.coarse, VIKKOZHAN_ENERGIES);
+    words(record + offsetof(VikkozhanState, background), d->state.background, VIKKOZHAN_ENERGIES);
+    words(record + offsetof(VikkozhanState, memories), d->state.memories, 2);
+    words(record + offsetof(VikkozhanState, predictor), d->state.predictor, VIKKOZHAN_COEFFICIENTS);
+    words(record + sizeof d->state, d->history, VIKKOZHAN_HISTORY_SAMPLES);
+}
+
+static void read_record(Decoder *d, const uint8_t *record) {
+    memcpy(&d->state, record, sizeof d->state);
+    memcpy(d->history, record + sizeof d->state, sizeof d->history);
+}
+
+static int conceal(Decoder *d, float *pcm, size_t room, VikkozhanAnswer *answer) {
+    return vikkozhan_decode_lost(&d->state, d->history, VIKKOZHAN_HISTORY_SAMPLES, pcm, room, answer);
+}
+
+/* One loss of a record by the direct call, written as the record's call writes it. */
+static size_t answer_directly(uint8_t *record, uint8_t *head) {
+    static __thread Decoder d;
+    float pcm[VIKKOZHAN_PCM_SAMPLES];
+    VikkozhanAnswer a;
+    read_record(&d, record);
+    int number = conceal(&d, pcm, VIKKOZHAN_PCM_SAMPLES, &a);
+    check(number == (int)a.number, "the number returned is the answer's");
+    memcpy(head, &a, sizeof a);
+    words(head + sizeof a, pcm, a.samples);
+    if (number == VIKKOZHAN_OK) {
+        write_record(record, &d);
+    } else {
+        check(memcmp(&d, record, sizeof d) == 0, "a refused state and its history stay as they were");
+    }
+    return sizeof a + 4 * a.samples;
+}
+
+/* Both calls on one record: equal heads, equal records after it. */
+static int same_answer(const uint8_t *record) {
+    uint8_t one[VIKKOZHAN_RECORD_BYTES], other[VIKKOZHAN_RECORD_BYTES];
+    uint8_t head[VIKKOZHAN_HEAD_BYTES], direct[VIKKOZHAN_HEAD_BYTES];
+    memcpy(one, record, sizeof one);
+    memcpy(other, record, sizeof other);
+    size_t n = vikkozhan_answer(one, sizeof one, head, sizeof head);
+    size_t m = answer_directly(other, direct);
+    check(n == m && memcmp(head, direct, n) == 0, "the direct call's answer is the record's");
+    check(memcmp(one, other, sizeof one) == 0, "the state after it is the record's");
+    uint32_t number;
+    memcpy(&number, head, sizeof number);
+    return number == VIKKOZHAN_OK;
+}
+
+/* A mono decoder at 8,000 Hz that has heard nothing yet. */
+static void silent(Decoder *d) {
+    memset(d, 0, sizeof *d);
+    d->state.channels = 1;
+    d->state.end = 21;
+    d->state.downsample = 6;
+    d->state.filter_period = 15;
+}
+
+/* A call with one thing wrong: its number, and nothing else changed. */
+static void refused(Decoder *d, size_t history_len, size_t room, int number) {
+    Decoder before = *d;
+    float pcm[VIKKOZHAN_PCM_SAMPLES];
+    float untouched[VIKKOZHAN_PCM_SAMPLES];
+    VikkozhanAnswer a = {99, 99, 99};
+    for (size_t i = 0; i < VIKKOZHAN_PCM_SAMPLES; i++) {
+        pcm[i] = untouched[i] = (float)i;
+    }
+    int got = vikkozhan_decode_lost(&d->state, d->history, history_len, pcm, room, &a);
+    check(got == number && a.number == (uint32_t)number, vikkozhan_strerror(number));
+    check(a.kind == VIKKOZHAN_NONE && a.samples == 0, "a refusal has no kind and no samples");
+    check(memcmp(d, &before, sizeof before) == 0, "a refusal leaves state and history");
+    check(memcmp(pcm, untouched, sizeof pcm) == 0, "a refusal leaves the PCM buffer");
+}
+
+static void each_refusal(void) {
+    Decoder d;
+    const size_t whole = VIKKOZHAN_HISTORY_SAMPLES;
+    silent(&d), d.state.lm = 4, refused(&d, whole, 20, VIKKOZHAN_BAD_LM);
+    silent(&d), d.state.channels = 3, refused(&d, whole, 20, VIKKOZHAN_BAD_CHANNELS);
+    silent(&d), d.state.start = 21, refused(&d, whole, 20, VIKKOZHAN_BAD_START);
+    silent(&d), d.state.end = 0, refused(&d, whole, 20, VIKKOZHAN_BAD_END);
+    silent(&d), d.state.downsample = 5, refused(&d, whole, 20, VIKKOZHAN_BAD_DOWNSAMPLE);
+    silent(&d), d.state.loss_count = UINT32_MAX, refused(&d, whole, 20, VIKKOZHAN_COUNT_FULL);
+    silent(&d), d.state.loss_count = 1, d.state.lag = 101, refused(&d, whole, 20, VIKKOZHAN_BAD_LAG);
+    silent(&d), d.state.filter_period = 14, refused(&d, whole, 20, VIKKOZHAN_BAD_FILTER);
+    silent(&d), refused(&d, whole - 1, 20, VIKKOZHAN_BAD_HISTORY);
+    silent(&d), refused(&d, 0, 20, VIKKOZHAN_BAD_HISTORY);
+    silent(&d), refused(&d, whole, 19, VIKKOZHAN_SHORT_PCM);
+    silent(&d), refused(&d, whole, 0, VIKKOZHAN_SHORT_PCM);
+}
+
+/* The worked example of the README, in a buffer that is longer than needed. */
+static void first_loss(void) {
+    Decoder d;
+    float pcm[24];
+    VikkozhanAnswer a;
+    for (size_t i = 0; i < 24; i++) {
+        pcm[i] = 7.0f;
+    }
+    silent(&d);
+    check(conceal(&d, pcm, 24, &a) == VIKKOZHAN_OK, "a silent state is accepted");
+    check(a.kind == VIKKOZHAN_PITCH && a.samples == 20, "its first loss is 20 samples by pitch");
+    for (size_t i = 0; i < 24; i++) {
+        check(word(pcm[i]) == (i < 20 ? 0 : word(7.0f)), "twenty samples of +0, and the rest as it was");
+    }
+    check(d.state.loss_count == 1 && d.state.lag == 720, "loss count 1, lag 720");
+}
+
+static void texts(void) {
+    for (int n = -1; n <= VIKKOZHAN_CUT_RECORD + 1; n++) {
+        check(vikkozhan_strerror(n)[0] != '\0', "every number has a text");
+    }
+    check(vikkozhan_version() == VIKKOZHAN_VERSION, "header and library are of one version");
+}
+
+/* ---- threads: each conceals its own share of the records, over and over ---- */
+
+typedef struct Share {
+    uint8_t *records; /* answered in place */
+    uint8_t *heads;
+    size_t count;
+} Share;
+
+static void *work(void *argument) {
+    Share *s = argument;
+    for (int round = 0; round < ROUNDS; round++) {
+        for (size_t i = 0; i < s->count; i++) {
+            answer_directly(s->records + i * VIKKOZHAN_RECORD_BYTES, s->heads + i * VIKKOZHAN_HEAD_BYTES);
+        }
+    }
+    return NULL;
+}
+
+static Share share_of(const uint8_t *records, size_t count) {
+    Share s = {malloc(count * VIKKOZHAN_RECORD_BYTES), calloc(count, VIKKOZHAN_HEAD_BYTES), count};
+    check(s.records && s.heads, "memory");
+    memcpy(s.records, records, count * VIKKOZHAN_RECORD_BYTES);
+    return s;
+}
+
+static void free_share(Share *s) {
+    free(s->records);
+    free(s->heads);
+}
+
+static void threads(const uint8_t *records, size_t count) {
+    Share alone = share_of(records, count), shares[THREADS];
+    pthread_t threads[THREADS];
+    work(&alone);
+    for (int t = 0; t < THREADS; t++) {
+        shares[t] = share_of(records, count);
+    }
+    for (int t = 0; t < THREADS; t++) {
+        check(pthread_create(&threads[t], NULL, work, &shares[t]) == 0, "a thread starts");
+    }
+    for (int t = 0; t < THREADS; t++) {
+        pthread_join(threads[t], NULL);
+        check(memcmp(shares[t].records, alone.records, count * VIKKOZHAN_RECORD_BYTES) == 0,
+              "a thread leaves the records that one alone leaves");
+        check(memcmp(shares[t].heads, alone.heads, count * VIKKOZHAN_HEAD_BYTES) == 0,
+              "a thread answers what one alone answers");
+        free_share(&shares[t]);
+    }
+    free_share(&alone);
+}
+
+static uint8_t *read_all(const char *path, size_t *count) {
+    FILE *in = fopen(path, "rb");
+    check(in != NULL, "the file of records opens");
+    fseek(in, 0, SEEK_END);
+    long size = ftell(in);
+    rewind(in);
+    *count = (size_t)size / VIKKOZHAN_RECORD_BYTES;
+    uint8_t *bytes = malloc(*count * VIKKOZHAN_RECORD_BYTES);
+    check(bytes != NULL, "memory");
+    check(fread(bytes, VIKKOZHAN_RECORD_BYTES, *count, in) == *count, "the records are read");
+    fclose(in);
+    return bytes;
+}
+
+int main(int argc, char **argv) {
+    check(argc == 2, "one argument, a file of records");
+    size_t count, accepted = 0;
+    uint8_t *records = read_all(argv[1], &count);
+    texts();
+    each_refusal();
+    first_loss();
+    for (size_t i = 0; i < count; i++) {
+        accepted += same_answer(records + i * VIKKOZHAN_RECORD_BYTES);
+    }
+    threads(records, count < 20 ? count : 20);
+    free(records);
+    printf("%zu records by both calls, %zu accepted: the same bytes; 12 refusals; %d threads\n", count, accepted, THREADS);
+    return 0;
+}

@@ -1,0 +1,2 @@
+-- A loss on a caller's own memory.
+pub mod Direct

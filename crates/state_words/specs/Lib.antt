@@ -1,0 +1,2 @@
+-- A state as 32-bit words.
+pub mod Words

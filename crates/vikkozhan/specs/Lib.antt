@@ -1,0 +1,2 @@
+-- The linked library's version.
+pub mod Version
