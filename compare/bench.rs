@@ -41,6 +41,16 @@ extern "C" {
         pcm: *mut f32,
         room: usize,
     ) -> u32;
+    fn leaf_state_words(w: *mut u32);
+    fn leaf_direct(
+        state: *mut u32,
+        history: *mut f32,
+        samples: usize,
+        pcm: *mut f32,
+        room: usize,
+        answer: *mut u32,
+    ) -> u32;
+    fn leaf_answer(record: *mut u8, bytes: usize, head: *mut u8, room: usize) -> usize;
 }
 
 /// Least time of a call, in ns; each call works on a fresh copy of the input.
@@ -92,7 +102,7 @@ fn predictor(x: &[f32]) -> Vec<f32> {
 }
 
 /// A state's words: a voiced sound, the predictor that fits it, moderate energies.
-#[cfg(leaf_decode_lost)]
+#[cfg(any(leaf_decode_lost, leaf_direct, leaf_state_words))]
 fn state(lm: u32, channels: u32, losses: u32) -> Vec<u32> {
     let x = sound(4336);
     let mut s = vec![lm, channels, 0, 21, 1, losses, 1, 173, 200, 0.375f32.to_bits(), 1];
@@ -142,6 +152,56 @@ fn loss(rounds: usize, name: &str, lm: u32, channels: u32, losses: u32) {
     let theirs = decoder(&s).decode_lost().unwrap();
     let name = format!("{name}, lm {lm}, channels {channels}");
     row(&name, (best[0], ours), (best[1], theirs));
+}
+
+/// The linked library's two calls on one loss, and the published text.
+#[cfg(all(leaf_direct, leaf_answer))]
+fn doors(rounds: usize, name: &str, lm: u32, channels: u32, losses: u32) {
+    let s = state(lm, channels, losses);
+    let count = (channels as usize) * (120 << lm);
+    let bytes: Vec<u8> = s.iter().flat_map(|w| w.to_le_bytes()).collect();
+    let mut best = [f64::INFINITY; 3];
+    let (mut pcm, mut head) = (vec![0f32; count], vec![0u8; 7692]);
+    for _ in 0..rounds {
+        let (mut w, mut history, mut answer) = (s[..161].to_vec(), floats(&s[161..]), [0u32; 3]);
+        let begin = Instant::now();
+        let number = unsafe {
+            leaf_direct(w.as_mut_ptr(), history.as_mut_ptr(), 4336, pcm.as_mut_ptr(), count, answer.as_mut_ptr())
+        };
+        best[0] = best[0].min(begin.elapsed().as_nanos() as f64);
+        let mut record = black_box(bytes.clone());
+        let begin = Instant::now();
+        let written = unsafe { leaf_answer(record.as_mut_ptr(), record.len(), head.as_mut_ptr(), head.len()) };
+        best[1] = best[1].min(begin.elapsed().as_nanos() as f64);
+        assert!(number == 0 && written == 12 + 4 * count);
+        let same = |words: &[f32]| words.iter().flat_map(|x| x.to_bits().to_le_bytes()).eq(head[12..written].iter().copied());
+        assert!(same(&pcm), "the two calls' samples differ");
+        let mut d = published::decoder(&s);
+        let begin = Instant::now();
+        black_box(d.decode_lost().unwrap());
+        best[2] = best[2].min(begin.elapsed().as_nanos() as f64);
+    }
+    println!(
+        "{name}, lm {lm}, channels {channels}: direct call {:.0} ns, record call {:.0} ns, Rust {:.0} ns",
+        best[0], best[1], best[2]
+    );
+}
+
+/// What the direct call does besides the loss: a state's 161 words read, and written. Many in a row,
+/// since one takes few steps of the clock.
+#[cfg(leaf_state_words)]
+fn crossing(rounds: usize) {
+    const CALLS: u32 = 1000;
+    let mut w = state(0, 1, 2)[..161].to_vec();
+    let mut best = f64::INFINITY;
+    for _ in 0..rounds {
+        let begin = Instant::now();
+        for _ in 0..CALLS {
+            unsafe { leaf_state_words(black_box(w.as_mut_ptr())) };
+        }
+        best = best.min(begin.elapsed().as_nanos() as f64 / CALLS as f64);
+    }
+    println!("a state's words read and written: {best:.1} ns");
 }
 
 fn main() {
@@ -265,6 +325,16 @@ fn main() {
         for lm in [0, 3] {
             for channels in [1, 2] {
                 loss(rounds, name, lm, channels, losses);
+            }
+        }
+    }
+    #[cfg(leaf_state_words)]
+    crossing(rounds);
+    #[cfg(all(leaf_direct, leaf_answer))]
+    for (name, losses) in [("first pitch loss", 0), ("repeated pitch loss", 2), ("noise loss", 6)] {
+        for lm in [0, 3] {
+            for channels in [1, 2] {
+                doors(rounds, name, lm, channels, losses);
             }
         }
     }

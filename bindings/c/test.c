@@ -6,51 +6,19 @@
 #include <stdlib.h>
 #include <string.h>
 
+#include "record.h"
 #include "vikkozhan.h"
 
 #define THREADS 16
 #define ROUNDS 4 /* how often each thread goes through its records */
 
-typedef struct Decoder {
-    VikkozhanState state;
-    float history[VIKKOZHAN_HISTORY_SAMPLES];
-} Decoder;
+typedef VikkozhanDecoder Decoder;
 
 static void check(int so, const char *what) {
     if (!so) {
         fprintf(stderr, "not so: %s\n", what);
         exit(1);
     }
-}
-
-/* A float's word as the file has it: every NaN is 7FC00000. */
-static uint32_t word(float x) {
-    uint32_t w;
-    memcpy(&w, &x, sizeof w);
-    return x != x ? 0x7fc00000u : w;
-}
-
-static void words(uint8_t *out, const float *x, size_t n) {
-    for (size_t i = 0; i < n; i++) {
-        uint32_t w = word(x[i]);
-        memcpy(out + 4 * i, &w, sizeof w);
-    }
-}
-
-/* A decoder as the file has it. Its bytes lie in the same order; only NaN is written anew. */
-static void write_record(uint8_t *record, const Decoder *d) {
-    memcpy(record, &d->state, sizeof d->state);
-    words(record + offsetof(VikkozhanState, filter_gain), &d->state.filter_gain, 1);
-    words(record + offsetof(VikkozhanState, coarse), d->state.coarse, VIKKOZHAN_ENERGIES);
-    words(record + offsetof(VikkozhanState, background), d->state.background, VIKKOZHAN_ENERGIES);
-    words(record + offsetof(VikkozhanState, memories), d->state.memories, 2);
-    words(record + offsetof(VikkozhanState, predictor), d->state.predictor, VIKKOZHAN_COEFFICIENTS);
-    words(record + sizeof d->state, d->history, VIKKOZHAN_HISTORY_SAMPLES);
-}
-
-static void read_record(Decoder *d, const uint8_t *record) {
-    memcpy(&d->state, record, sizeof d->state);
-    memcpy(d->history, record + sizeof d->state, sizeof d->history);
 }
 
 static int conceal(Decoder *d, float *pcm, size_t room, VikkozhanAnswer *answer) {
@@ -62,13 +30,13 @@ static size_t answer_directly(uint8_t *record, uint8_t *head) {
     static __thread Decoder d;
     float pcm[VIKKOZHAN_PCM_SAMPLES];
     VikkozhanAnswer a;
-    read_record(&d, record);
+    vikkozhan_read_record(&d, record);
     int number = conceal(&d, pcm, VIKKOZHAN_PCM_SAMPLES, &a);
     check(number == (int)a.number, "the number returned is the answer's");
     memcpy(head, &a, sizeof a);
-    words(head + sizeof a, pcm, a.samples);
+    vikkozhan_put_floats(head + sizeof a, pcm, a.samples);
     if (number == VIKKOZHAN_OK) {
-        write_record(record, &d);
+        vikkozhan_write_record(record, &d);
     } else {
         check(memcmp(&d, record, sizeof d) == 0, "a refused state and its history stay as they were");
     }
@@ -144,7 +112,8 @@ static void first_loss(void) {
     check(conceal(&d, pcm, 24, &a) == VIKKOZHAN_OK, "a silent state is accepted");
     check(a.kind == VIKKOZHAN_PITCH && a.samples == 20, "its first loss is 20 samples by pitch");
     for (size_t i = 0; i < 24; i++) {
-        check(word(pcm[i]) == (i < 20 ? 0 : word(7.0f)), "twenty samples of +0, and the rest as it was");
+        const float wanted = i < 20 ? 0.0f : 7.0f;
+        check(memcmp(&pcm[i], &wanted, sizeof wanted) == 0, "twenty samples of +0, and the rest as it was");
     }
     check(d.state.loss_count == 1 && d.state.lag == 720, "loss count 1, lag 720");
 }

@@ -2,29 +2,32 @@
 // output.
 use std::io::{Read, Write};
 
-const RECORD_BYTES: usize = 17_988;
-const HEAD_BYTES: usize = 7_692;
-
-#[link(name = "exports", kind = "static")]
-extern "C" {
-    fn vikkozhan_answer(record: *mut u8, record_len: usize, head: *mut u8, head_len: usize) -> usize;
-}
-
-/// Conceals one lost frame: the record becomes the one after its loss. What is returned is the front
-/// of `head`: number, kind, sample count and samples.
-fn answer<'a>(record: &mut [u8; RECORD_BYTES], head: &'a mut [u8; HEAD_BYTES]) -> &'a [u8] {
-    // Sound: both buffers are lent whole and to nobody else.
-    let bytes = unsafe { vikkozhan_answer(record.as_mut_ptr(), record.len(), head.as_mut_ptr(), head.len()) };
-    &head[..bytes]
-}
+use vikkozhan::{f32_to_word, Concealer, PCM_SAMPLES, RECORD_BYTES};
 
 fn main() -> std::io::Result<()> {
     let mut record = [0; RECORD_BYTES];
     std::io::stdin().read_exact(&mut record)?;
-    let mut head = [0; HEAD_BYTES];
-    let written = answer(&mut record, &mut head);
+
+    let mut concealer = Concealer::from_record(&record);
+    let mut pcm = [0.0; PCM_SAMPLES];
+    let (head, samples) = match concealer.conceal(&mut pcm) {
+        Ok(made) => {
+            record = concealer.to_record();
+            ([0, made.kind.number(), made.samples as u32], made.samples)
+        }
+        // The record leaves byte for byte as it came.
+        Err(refusal) => {
+            eprintln!("refused: {refusal}");
+            ([refusal.number(), 0, 0], 0)
+        }
+    };
+
+    let words = head
+        .into_iter()
+        .chain(pcm[..samples].iter().map(|&x| f32_to_word(x)));
+    let mut answer: Vec<u8> = words.flat_map(u32::to_le_bytes).collect();
+    answer.extend(record);
     let mut out = std::io::stdout().lock();
-    out.write_all(written)?;
-    out.write_all(&record)?;
+    out.write_all(&answer)?;
     out.flush()
 }
