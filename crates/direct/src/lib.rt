@@ -4,9 +4,9 @@ ghost use mathlib.Core.Bool.{cond};
 ghost use lib.Dec.{eqb};
 ghost use Rattle.state_words.specs.Words.{stateWords};
 ghost use Rattle.direct.specs.Direct.{called, lossIn};
+use put_state_words::to_words;
 use state::State;
 use state_words::from_words;
-use state_words::to_words;
 
 // The state's words after a call; those of a refused one stay as they are.
 fn keep_state(state: &mut [u32; 161], number: u32, s: State)

@@ -2,12 +2,12 @@
 ghost use mathlib.Core.Path.{_≡_};
 ghost use Rattle.loops.specs.Reply.{reply, replyIf};
 ghost use Rattle.record.specs.Record.{recordOf, writable};
+use put_state_words::to_words;
 use put_words::put_floats_at;
 use put_words::put_words_at;
 use record::BYTES;
 use record::HISTORY;
 use state::State;
-use state_words::to_words;
 
 // The record of a state and its history. Other lengths than a record's and a history's leave b as it is.
 pub fn write_record(b: &mut [u8], s: State, history: &[f32]) -> bool

@@ -1,4 +1,4 @@
--- `state_words::put_floats` meets its contract: one word after the other.
+-- `put_state_words::put_floats` meets its contract: one word after the other.
 use mathlib.Core.Path.{_≡_, ap, _∙_}
 use Prim.Native.Nat.{ℕ, _-_, _≤_}
 use native.Mathlib.Omega.{arith}
@@ -6,9 +6,9 @@ use borrow.Author.Needs.{needs}
 use lib.ListN.{length, getD, length-set}
 use lib.Ieee.{nan, binary32, toBits}
 use Rattle.loops.specs.Front.{front, tab, tab-none, tab-more, tab-all}
 use Rattle.state_words.specs.Words.{floatWords}
-use Rattle.state_words.proofs.put_floats.Statement.{statement}
-use Rattle.state_words.proofs.put_floats.Tie as tie
+use Rattle.put_state_words.proofs.put_floats.Statement.{statement}
+use Rattle.put_state_words.proofs.put_floats.Tie as tie
 
 abbrev Inv-loop : tie.InvT-loop
 Inv-loop w₀ xs n k₀ w k =

@@ -1,10 +1,10 @@
--- `state_words::put_state` meets its contract: three parts, one behind the other.
+-- `put_state_words::put_state` meets its contract: three parts, one behind the other.
 use mathlib.Core.Path.{_≡_, _∙_}
 use lib.ListN.{length}
 use borrow.Author.Needs.{needs}
-use Rattle.state_words.proofs.Parts.{all-parts}
-use Rattle.state_words.proofs.put_state.Statement.{statement}
-use Rattle.state_words.proofs.put_state.Tie as tie
+use Rattle.put_state_words.proofs.Parts.{all-parts}
+use Rattle.put_state_words.proofs.put_state.Statement.{statement}
+use Rattle.put_state_words.proofs.put_state.Tie as tie
 
 -- what is known of the arrays where the function begins
 coarse-length : (c : tie.Start) → length (c .args .s .coarse) ≡ 50

@@ -1,4 +1,4 @@
--- `state_words::put_words` meets its contract: one word after the other.
+-- `put_state_words::put_words` meets its contract: one word after the other.
 use mathlib.Core.Path.{_≡_, ap, _∙_}
 use Prim.Native.Nat.{_-_, _≤_}
 use native.Mathlib.Omega.{arith}
@@ -6,8 +6,8 @@ use borrow.Author.Needs.{needs}
 use lib.ListN.{length, take, length-set}
 use lib.Seq.{length-take-le, take-length}
 use Rattle.loops.specs.Front.{front, copy-none, copy-more, front-all}
-use Rattle.state_words.proofs.put_words.Statement.{statement}
-use Rattle.state_words.proofs.put_words.Tie as tie
+use Rattle.put_state_words.proofs.put_words.Statement.{statement}
+use Rattle.put_state_words.proofs.put_words.Tie as tie
 
 abbrev Inv-loop : tie.InvT-loop
 Inv-loop w₀ xs n k₀ w k = (k ≤ n) × (length w ≡ n) × (n ≡ length w₀) × (n ≡ length xs) × (w ≡ front (take k xs) w₀ k)

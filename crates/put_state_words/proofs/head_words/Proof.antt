@@ -1,8 +1,8 @@
--- `state_words::head_words` meets its contract: word by word.
+-- `put_state_words::head_words` meets its contract: word by word.
 use borrow.Author.Needs.{needs}
-use Rattle.state_words.proofs.Parts.{head-parts}
-use Rattle.state_words.proofs.head_words.Statement.{statement}
-use Rattle.state_words.proofs.head_words.Tie as tie
+use Rattle.put_state_words.proofs.Parts.{head-parts}
+use Rattle.put_state_words.proofs.head_words.Statement.{statement}
+use Rattle.put_state_words.proofs.head_words.Tie as tie
 
 f32-to-word-requires : tie.Need-f32-to-word-requires
 f32-to-word-requires c κs = search needs
