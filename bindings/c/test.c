@@ -1,6 +1,6 @@
-/* test RECORDS: holds the direct call to the record's on every record of a file, and to its own
-   promises: a refusal leaves everything, the rest of a longer buffer stays, threads do not meet.
-   Prints what it did; exits with 1 at the first thing that is not so. */
+/* test RECORDS ANSWERS: holds both calls to stored answers on every record of a file, and the direct
+   call to its own promises: a refusal leaves everything, the rest of a longer buffer stays, threads do
+   not meet. Prints what it did; exits with 1 at the first thing that is not so. */
 #include <pthread.h>
 #include <stdio.h>
 #include <stdlib.h>
@@ -43,19 +43,28 @@ static size_t answer_directly(uint8_t *record, uint8_t *head) {
     return sizeof a + 4 * a.samples;
 }
 
-/* Both calls on one record: equal heads, equal records after it. */
-static int same_answer(const uint8_t *record) {
+/* A call's answer to a record and the record after it, as the file of answers has them. */
+static size_t answer_as(const char *call, const uint8_t *answers, size_t head_bytes, const uint8_t *head,
+                        const uint8_t *record) {
+    check(memcmp(answers, head, head_bytes) == 0, call);
+    check(memcmp(answers + head_bytes, record, VIKKOZHAN_RECORD_BYTES) == 0, call);
+    return head_bytes + VIKKOZHAN_RECORD_BYTES;
+}
+
+/* Both calls on one record give the next of the stored answers; returns how long that is. */
+static size_t same_answer(const uint8_t *record, const uint8_t *answers, size_t *accepted) {
     uint8_t one[VIKKOZHAN_RECORD_BYTES], other[VIKKOZHAN_RECORD_BYTES];
     uint8_t head[VIKKOZHAN_HEAD_BYTES], direct[VIKKOZHAN_HEAD_BYTES];
+    VikkozhanAnswer stored;
+    memcpy(&stored, answers, sizeof stored);
+    *accepted += stored.number == VIKKOZHAN_OK;
     memcpy(one, record, sizeof one);
     memcpy(other, record, sizeof other);
     size_t n = vikkozhan_answer(one, sizeof one, head, sizeof head);
     size_t m = answer_directly(other, direct);
-    check(n == m && memcmp(head, direct, n) == 0, "the direct call's answer is the record's");
-    check(memcmp(one, other, sizeof one) == 0, "the state after it is the record's");
-    uint32_t number;
-    memcpy(&number, head, sizeof number);
-    return number == VIKKOZHAN_OK;
+    check(n == m && n == sizeof stored + 4 * stored.samples, "as many samples as stored");
+    answer_as("the direct call's answer is the stored one", answers, n, direct, other);
+    return answer_as("the record call's answer is the stored one", answers, n, head, one);
 }
 
 /* A mono decoder at 8,000 Hz that has heard nothing yet. */
@@ -176,32 +185,36 @@ static void threads(const uint8_t *records, size_t count) {
     free_share(&alone);
 }
 
-static uint8_t *read_all(const char *path, size_t *count) {
+static uint8_t *read_all(const char *path, size_t *size) {
     FILE *in = fopen(path, "rb");
-    check(in != NULL, "the file of records opens");
+    check(in != NULL, "a file opens");
     fseek(in, 0, SEEK_END);
-    long size = ftell(in);
+    *size = (size_t)ftell(in);
     rewind(in);
-    *count = (size_t)size / VIKKOZHAN_RECORD_BYTES;
-    uint8_t *bytes = malloc(*count * VIKKOZHAN_RECORD_BYTES);
+    uint8_t *bytes = malloc(*size);
     check(bytes != NULL, "memory");
-    check(fread(bytes, VIKKOZHAN_RECORD_BYTES, *count, in) == *count, "the records are read");
+    check(fread(bytes, 1, *size, in) == *size, "a file is read");
     fclose(in);
     return bytes;
 }
 
 int main(int argc, char **argv) {
-    check(argc == 2, "one argument, a file of records");
-    size_t count, accepted = 0;
-    uint8_t *records = read_all(argv[1], &count);
+    check(argc == 3, "two arguments, a file of records and one of their answers");
+    size_t bytes, stored, at = 0, accepted = 0;
+    uint8_t *records = read_all(argv[1], &bytes), *answers = read_all(argv[2], &stored);
+    const size_t count = bytes / VIKKOZHAN_RECORD_BYTES;
     texts();
     each_refusal();
     first_loss();
     for (size_t i = 0; i < count; i++) {
-        accepted += same_answer(records + i * VIKKOZHAN_RECORD_BYTES);
+        check(at + sizeof(VikkozhanAnswer) + VIKKOZHAN_RECORD_BYTES <= stored, "each record has a stored answer");
+        at += same_answer(records + i * VIKKOZHAN_RECORD_BYTES, answers + at, &accepted);
     }
+    /* What is left is the answer to a record that is cut short, if the file ends with one. */
+    check(stored - at == (bytes % VIKKOZHAN_RECORD_BYTES ? sizeof(VikkozhanAnswer) : 0), "no answer is left over");
     threads(records, count < 20 ? count : 20);
     free(records);
-    printf("%zu records by both calls, %zu accepted: the same bytes; 12 refusals; %d threads\n", count, accepted, THREADS);
+    free(answers);
+    printf("%zu records by both calls, %zu accepted: the stored bytes; 12 refusals; %d threads\n", count, accepted, THREADS);
     return 0;
 }
