@@ -2,25 +2,27 @@
 use crate::streams;
 use float_bits::words::f32_to_word;
 use float_bits::words::wrapping_mul_u32;
-use ref_decode::decode_lost;
-use settings::Number;
+use put_state_words::to_words;
 use state::State;
+use state_words::from_words;
 
 // Number, kind and sample count.
-fn write_report(number: Number, kind: u32, samples: usize) {
-    streams::write_word(number.value());
-    streams::write_word(kind);
-    streams::write_number(samples);
+fn write_report(answer: [u32; 3]) {
+    streams::write_word(answer[0]);
+    streams::write_word(answer[1]);
+    streams::write_word(answer[2]);
 }
 
-// One call, its report written, and the state after it; lent the first p samples of a PCM buffer, each 1 before it.
+// One call on the state's words, its report written, and the state after it; lent the first p samples of a PCM buffer,
+// each 1 before it.
 fn call(s: State, history: &mut [f32], pcm: &mut [f32], p: usize) -> State {
     let n = streams::at_most(p, pcm.len());
     buffers::fill(&mut pcm[..n], 1.0);
-    let a = decode_lost(s, history, &mut pcm[..n]);
-    let number = a.number;
-    write_report(number, a.kind, a.samples);
-    a.state
+    let mut w = to_words(s);
+    let mut answer = [0u32; 3];
+    direct::decode_lost(&mut w, history, &mut pcm[..n], &mut answer);
+    write_report(answer);
+    from_words(&w)
 }
 
 // The same, lent the first n samples of a history.

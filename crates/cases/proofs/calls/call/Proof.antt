@@ -16,6 +16,9 @@ slice-aggregate-fill c = sym (length-take-le _ _ (search needs))
 fill-requires : tie.Need-fill-requires
 fill-requires c κs = search needs
 
+to-words-requires : tie.Need-to-words-requires
+to-words-requires c κs = search needs
+
 slice-relend-prefix-decode-lost : tie.Need-slice-relend-prefix-decode-lost
 slice-relend-prefix-decode-lost c = search needs
 
@@ -27,6 +30,9 @@ decode-lost-requires c κs = search needs
 
 write-report-requires : tie.Need-write-report-requires
 write-report-requires c κs = search needs
+
+from-words-requires : tie.Need-from-words-requires
+from-words-requires c κs = search needs
 
 same-length : tie.Need-same-length
 same-length c = search needs
@@ -45,10 +51,12 @@ call-spec =
     slice-relend-prefix-fill
     slice-aggregate-fill
     fill-requires
+    to-words-requires
     slice-relend-prefix-decode-lost
     slice-aggregate-decode-lost
     decode-lost-requires
     write-report-requires
+    from-words-requires
     same-length
     same-length-2
     returns)
