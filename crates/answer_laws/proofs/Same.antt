@@ -3,11 +3,10 @@ use mathlib.Core.Path.{_≡_, refl, ap, _∙_}
 use mathlib.Core.Bool.{Bool, true, false, cond}
 use mathlib.Core.List.{List, _++_}
 use Prim.Native.Nat.{ℕ}
-use lib.ListN.{length, take}
+use lib.ListN.{length}
 use lib.Dec.{eqb}
 use lib.Ieee.{Float}
 use Rattle.loops.specs.Front.{tab, getD-tab}
-use Rattle.state.specs.declared.State.{State}
 use Rattle.words.specs.Bytes.{wordAt, wordsBytes, floatsBytes}
 use Rattle.state_words.specs.Words.{stateLength, wordIn, stateIn, stateWords}
 use Rattle.state_words.proofs.Parts.{state-same}

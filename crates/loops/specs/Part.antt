@@ -60,9 +60,3 @@ module _ {A : Type 0} where
       ap₂ (λ u v. u ++ (y ++ drop n v)) (take-at done (drop a h) a l) (drop-at done (drop a h) a l)
       ∙ ap (λ u. done ++ (y ++ u)) (drop-drop n a h)
       ∙ sym (append-assoc done y (drop (a + n) h))
-
-  -- two parts written one after the other
-  pub two-parts : (a n m p q : ℕ) (y z h b d : List A) → b ≡ put a p y h → d ≡ put (a + n) q z b → p ≡ n → q ≡ m → length y ≡ n → a + n + m ≤ length h
-      → d ≡ put a (n + m) (y ++ z) h
-  two-parts a n m p q y z h b d e f i j l w =
-      f ∙ ap₂ (λ k u. put (a + n) k z u) j (e ∙ ap (λ k. put a k y h) i) ∙ put-put a n m y z h l w

@@ -9,7 +9,6 @@ use lib.Ieee.{Float, binary32, ofBits}
 use Rattle.loops.specs.Front.{length-tab, tab-same}
 use Rattle.post_filter.specs.declared.Filter.{Filter}
 use Rattle.settings.specs.declared.Settings.{Settings}
-use Rattle.state.specs.declared.State.{State}
 use Rattle.state_words.specs.Words.{stateLength, floatsBy, settingsBy, filterBy, stateBy, floatWords}
 
 -- ---- read field by field, from the words w 0, w 1, ..

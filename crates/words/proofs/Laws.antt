@@ -1,12 +1,11 @@
 -- Words written one after the other, four bytes at a time.
 use mathlib.Core.Path.{_≡_, refl, ap, ap₂, _∙_, sym}
 use mathlib.Core.Bool.{Bool, true, false, cond}
-use mathlib.Core.List.{List, _++_, append-assoc}
+use mathlib.Core.List.{List}
 use Prim.Native.Nat.{ℕ, _+_, _*_, _/_, _%_, _≤_, _<_}
 use native.Mathlib.Omega.{arith}
 use native.Mathlib.Nat.{div-one}
-use lib.ListN.{length, getD, set, take, drop, length-append}
-use lib.Seq.{take-at, drop-at, drop-drop, length-take-le}
+use lib.ListN.{length, getD, set}
 use lib.Dec.{leb}
 use borrow.Author.Tests.{le-leb, lt-leb, leb-true, leb-false}
 use Rattle.loops.specs.Part.{put}

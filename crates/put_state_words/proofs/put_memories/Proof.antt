@@ -1,5 +1,4 @@
 -- `put_state_words::put_memories` meets its contract: two parts, one behind the other.
-use native.Mathlib.Omega.{arith}
 use borrow.Author.Needs.{needs}
 use Rattle.put_state_words.proofs.Parts.{two-arrays}
 use Rattle.put_state_words.proofs.put_memories.Statement.{statement}
