@@ -1,3 +1,3 @@
-mod Quadrants
+pub mod Quadrants
 pub mod Sizes
 pub mod Circles

@@ -61,16 +61,19 @@ unfolding place angle halfSteps
 on-circle n t k z =
     found n (960 / n) (halfSteps n t k) (omega (arith, at-least n z)) (whole n z) (per-least n z) (half-odd n t k (even n z))
 
--- No quarter of the circle is read, so that no cosine that is read is a zero: 1,920 parts are a multiple of 16, and an angle is none.
-pub no-quarter : (n t k : ℕ) → Size n → angle n t k % 16 ≡ 0 → ⊥
-no-quarter n t k z h =
+-- an odd number of half steps is no multiple of 16 parts
+pub odd-parts : (n p : ℕ) → Size n → 960 / n * (2 * p + 1) % 16 ≡ 0 → ⊥
+odd-parts n p z h =
     let s = 960 / n in
     let m = 2 ^ z .lm in
-    let p = place n t k in
-    let c = angle n t k / 16 in
+    let c = s * (2 * p + 1) / 16 in
     let eight : s * m ≡ 8 = omega (arith, whole n z, ap (λ y. y * s) (z .is), mul-assoc 120 m s, mul-comm m s) in
-    let a : s * (2 * p + 1) ≡ 16 * c = omega (arith, on-circle n t k z) in
+    let a : s * (2 * p + 1) ≡ 16 * c = omega arith in
     let turned : s * (2 * p + 1) * m ≡ 8 * (2 * p + 1) =
     ap (λ y. y * m) (mul-comm s (2 * p + 1)) ∙ mul-assoc (2 * p + 1) s m ∙ ap (λ y. (2 * p + 1) * y) eight ∙ mul-comm (2 * p + 1) 8 in
     let double : s * (2 * p + 1) * m ≡ 16 * (c * m) = ap (λ y. y * m) a ∙ mul-assoc 16 c m in
     omega arith
+
+-- No quarter of the circle is read, so that no cosine that is read is a zero: 1,920 parts are a multiple of 16, and an angle is none.
+pub no-quarter : (n t k : ℕ) → Size n → angle n t k % 16 ≡ 0 → ⊥
+no-quarter n t k z h = odd-parts n (place n t k) z (ap (λ y. y % 16) (on-circle n t k z) ∙ h)

@@ -1,0 +1,3 @@
+-- Laws that the proofs of this crate, and of those that read its pairs, cite.
+pub mod Turns
+pub mod Pairs

@@ -1,0 +1,2 @@
+-- The circle of cosines in pairs.
+pub mod Pairs

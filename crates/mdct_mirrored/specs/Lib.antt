@@ -1,0 +1,2 @@
+-- The inverse transform by half of its sums.
+pub mod Mirrored

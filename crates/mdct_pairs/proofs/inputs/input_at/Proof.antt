@@ -1,0 +1,38 @@
+use mathlib.Core.Path.{_≡_, refl, ap, _∙_, sym}
+use mathlib.Core.List.{List, [], _∷_, _++_}
+use mathlib.Core.Logic.{⊎-elim}
+use Prim.Native.Nat.{ℕ, zero, suc, _+_, _≤_, _<_, _-_}
+use native.Mathlib.Omega.{arith}
+use native.Mathlib.Numerals.{add-one}
+use lib.ListN.{length, getD, set, take, drop, length-set}
+use borrow.Author.Needs.{needs}
+use lib.Ieee.{neg}
+use borrow.Author.Tests.{eq-eqb, ne-eqb}
+use Rattle.mdct_pairs.specs.Pairs.{inputAt}
+use Rattle.mdct_pairs.proofs.inputs.input_at.Statement.{statement}
+use Rattle.mdct_pairs.proofs.inputs.input_at.Tie as tie
+use Rattle.mdct_pairs.proofs.inputs.input_at.Reads as reads
+use Rattle.mdct_pairs.proofs.inputs.input_at.Lts as lts
+use Rattle.float_bits.proofs.formats.f32_to_f64.Reads as f32-to-f64-reads
+
+mul-f32-to-f64 : tie.Need-mul-f32-to-f64
+mul-f32-to-f64 c = search needs
+
+shared-slice-read-f32-to-f64 : tie.Need-shared-slice-read-f32-to-f64
+shared-slice-read-f32-to-f64 c = search needs
+
+f32-to-f64-requires : tie.Need-f32-to-f64-requires
+f32-to-f64-requires c κs = search needs
+
+returns : tie.Need-returns
+unfolding inputAt
+returns c = simp (eq-eqb _ 3 (c .if1 .taken)) (ap neg (c .before .f32-to-f64 .ensures))
+
+returns-2 : tie.Need-returns-2
+unfolding inputAt
+returns-2 c = simp (ne-eqb _ 3 (c .if1 .left)) (c .before .f32-to-f64 .ensures)
+
+pub input-at-spec : {M : Type 1} → statement M
+input-at-spec =
+    tie.close
+    (tie.spec mul-f32-to-f64 shared-slice-read-f32-to-f64 f32-to-f64-requires returns returns-2)
