@@ -29,7 +29,7 @@ rest-more f d xs b t j e v q h =
     ∙ ap (front (take t xs ++ tab f (j + 1)) xs) k
 
 -- outputs up to t, and then a run of m more
-tab-run : {A : Type 0} (f g : ℕ → A) (t m : ℕ) → ((j : ℕ) → j < m → g j ≡ f (t + j)) → tab f t ++ tab g m ≡ tab f (t + m)
+pub tab-run : {A : Type 0} (f g : ℕ → A) (t m : ℕ) → ((j : ℕ) → j < m → g j ≡ f (t + j)) → tab f t ++ tab g m ≡ tab f (t + m)
 unfolding tab
 tab-run f g t zero e = append-nil (tab f t) ∙ ap (tab f) (sym (add-zero t))
 tab-run f g t (suc m) e =

@@ -9,10 +9,11 @@ use borrow.Author.Tests.{eq-eqb}
 use Rattle.loops.specs.Logic.{and-both}
 use Rattle.loops.specs.Reply.{reply, reply-lent, reply-yes, reply-no}
 use Rattle.cosine_circle.specs.Circle.{isFrameSize}
-use Rattle.mdct.specs.Imdct.{takes-frame, takes-no-size, takes-no-room}
+use Rattle.mdct.specs.Imdct.{imdct, takes-frame, takes-no-size, takes-no-room}
 use Rattle.mdct_pairs.specs.Work.{total, pairSums}
 use Rattle.mdct_pairs.specs.Pairs.{pairTakes, pairReply, summed, values, Sums}
-use Rattle.mdct_mirrored.specs.Mirrored.{mirroredOutputs, mirrored, transformed, mirroredReply}
+use Rattle.mdct_mirrored.proofs.Same.{mirrored-same}
+use Rattle.mdct_mirrored.specs.Mirrored.{Transform, mirroredOutputs, mirrored, transformed, mirroredReply}
 
 -- pair_sums takes a frame's inputs and as much room
 pub summed-is : (xs was y : List Float) (p : ℕ) (took : Bool) → isFrameSize (length xs) ≡ true → length was ≡ length xs → reply took (summed y p) ≡ pairReply xs was
@@ -38,3 +39,9 @@ module _ (xs out : List Float) where
   pub no-room : isFrameSize (length xs) ≡ true → (length out ≡ 2 * length xs → ⊥) → reply false (transformed out 0) ≡ mirroredReply xs out
   unfolding mirroredReply
   no-room f h = reply-no _ _ _ (takes-no-room _ _ f h) refl
+
+  -- whoever calls it gets the direct sum's outputs
+  pub reply-same : (y : List Float) (p : ℕ) (took : Bool) → isFrameSize (length xs) ≡ true → length out ≡ 2 * length xs → reply took (transformed y p) ≡ mirroredReply xs out
+      → y ≡ imdct (length xs) xs
+  unfolding mirroredReply
+  reply-same y p took f l e = ap (λ (z : Transform). z .outputs) (reply-lent _ _ _ e (takes-frame _ _ f l)) ∙ mirrored-same (length xs) xs f

@@ -9,9 +9,8 @@ use lib.Ieee.{Float, nan}
 use borrow.Author.Tests.{lt-ltb, le-ltb}
 use Rattle.loops.specs.Front.{front, tab, length-tab, getD-tab, tab-all, tab-list}
 use Rattle.loops.specs.Pick.{pick-true, pick-false}
-use Rattle.float_sign.specs.Sign.{turned}
 use Rattle.mdct.specs.Imdct.{halfOf}
-use Rattle.mdct_mirrored.specs.Mirrored.{oddAt, evenAt, mirroredOutputs}
+use Rattle.mdct_mirrored.specs.Mirrored.{oddSum, evenSum, oddAt, evenAt, mirroredOutputs}
 
 module _ (n : ℕ) (sums : List Float) where
   module _ (u : ℕ) (r : Float) where
@@ -19,7 +18,7 @@ module _ (n : ℕ) (sums : List Float) where
     unfolding oddAt
     odd-before h e = e ∙ ap halfOf (sym (pick-true _ _ _ (lt-ltb u (n / 2) h)))
 
-    pub odd-past : n / 2 ≤ u → r ≡ halfOf (turned (getD sums (2 * (n - 1 - u)) nan)) → r ≡ oddAt n sums u
+    pub odd-past : n / 2 ≤ u → r ≡ halfOf (oddSum n sums u) → r ≡ oddAt n sums u
     unfolding oddAt
     odd-past h e = e ∙ ap halfOf (sym (pick-false _ _ _ (le-ltb u (n / 2) h)))
 
@@ -27,7 +26,7 @@ module _ (n : ℕ) (sums : List Float) where
     unfolding evenAt
     even-before h e = e ∙ ap halfOf (sym (pick-true _ _ _ (lt-ltb u (n / 2) h)))
 
-    pub even-past : n / 2 ≤ u → r ≡ halfOf (getD sums (2 * (n - 1 - u) + 1) nan) → r ≡ evenAt n sums u
+    pub even-past : n / 2 ≤ u → r ≡ halfOf (evenSum n sums u) → r ≡ evenAt n sums u
     unfolding evenAt
     even-past h e = e ∙ ap halfOf (sym (pick-false _ _ _ (le-ltb u (n / 2) h)))
 

@@ -1,10 +1,10 @@
--- THE THEOREM: by half of the sums or by all of them, the inverse transform has the same outputs, bit for bit, and half of them takes half the products.
+-- The theorem: by half of the sums or by all of them, the inverse transform has the same outputs, bit for bit, and half of them takes half the products.
 use mathlib.Core.Path.{_≡_, refl, ap, _∙_, sym}
 use mathlib.Core.Bool.{Bool, true, false, cond}
-use mathlib.Core.List.{List, [], _∷_, _++_, append-nil, append-assoc, map}
-use Prim.Native.Nat.{ℕ, zero, suc, _+_, _-_, _*_, _/_, _%_, _≤_, _<_}
+use mathlib.Core.List.{List, _++_, map}
+use Prim.Native.Nat.{ℕ, _+_, _-_, _*_, _/_, _%_, _≤_, _<_}
 use native.Mathlib.Omega.{arith}
-use native.Mathlib.Nat.{add-zero, add-suc, zero-mul, one-mul}
+use native.Mathlib.Nat.{zero-mul, one-mul}
 use lib.Dec.{ltb}
 use lib.ListN.{getD}
 use lib.Ieee.{Float, nan, binary32, binary64, ofBits, neg, add, sub, mul}
@@ -15,10 +15,11 @@ use Rattle.float_sign.specs.Sign.{turned, turned-zero}
 use Rattle.cosine_circle.specs.Circle.{isFrameSize}
 use Rattle.cosine_circle.proofs.Sizes.{Size, sized, even}
 use Rattle.mdct.specs.Imdct.{imdctSum, halfOf, imdctAt, imdct}
+use Rattle.mdct.proofs.Fronts.{tab-run}
 use Rattle.mdct_pairs.specs.Work.{Work, sumWork, allSums}
 use Rattle.mdct_pairs.specs.Pairs.{values}
 use Rattle.mdct_pairs.proofs.Works.{work-value, work-products, total-tab, map-tab, pair-values, pair-products}
-use Rattle.mdct_mirrored.specs.Mirrored.{direct, oddAt, evenAt, mirroredOutputs, mirrored}
+use Rattle.mdct_mirrored.specs.Mirrored.{direct, oddSum, evenSum, oddAt, evenAt, mirroredOutputs, mirrored}
 use Rattle.mdct_mirrored.proofs.Mirror.{sum-odd, sum-even}
 
 -- ---- the direct sum
@@ -70,31 +71,29 @@ module _ (n : ℕ) (xs : List Float) (z : Size n) where
     below : n / 2 ≤ u → n - 1 - u < n / 2
     below h = omega (arith, even n z)
 
+    odd-past : n / 2 ≤ u → oddSum n (pairs n xs) u ≡ imdctSum n xs u
+    unfolding oddSum
+    odd-past h = ap turned (first-sum (n - 1 - u) (below h)) ∙ sym (sum-odd n xs (n - 1 - u) z (omega arith)) ∙ ap (imdctSum n xs) back
+
+    even-past : n / 2 ≤ u → evenSum n (pairs n xs) u ≡ imdctSum n xs (n + u)
+    unfolding evenSum
+    even-past h = second-sum (n - 1 - u) (below h) ∙ sum-even n xs u z l
+
     odd-is : oddAt n (pairs n xs) u ≡ imdctAt n xs u
     unfolding oddAt imdctAt
     odd-is = ap halfOf (go (ltb u (n / 2)) refl)
       where
-        go : (b : Bool) → ltb u (n / 2) ≡ b → cond b (getD (pairs n xs) (2 * u) nan) (turned (getD (pairs n xs) (2 * (n - 1 - u)) nan)) ≡ imdctSum n xs u
+        go : (b : Bool) → ltb u (n / 2) ≡ b → cond b (getD (pairs n xs) (2 * u) nan) (oddSum n (pairs n xs) u) ≡ imdctSum n xs u
         go true e = first-sum u (ltb-true u (n / 2) e)
-        go false e =
-            ap turned (first-sum (n - 1 - u) (below (ltb-false u (n / 2) e)))
-            ∙ sym (sum-odd n xs (n - 1 - u) z (omega arith)) ∙ ap (imdctSum n xs) back
+        go false e = odd-past (ltb-false u (n / 2) e)
 
     even-is : evenAt n (pairs n xs) u ≡ imdctAt n xs (n + u)
     unfolding evenAt imdctAt
     even-is = ap halfOf (go (ltb u (n / 2)) refl)
       where
-        go : (b : Bool) → ltb u (n / 2) ≡ b → cond b (getD (pairs n xs) (2 * u + 1) nan) (getD (pairs n xs) (2 * (n - 1 - u) + 1) nan) ≡ imdctSum n xs (n + u)
+        go : (b : Bool) → ltb u (n / 2) ≡ b → cond b (getD (pairs n xs) (2 * u + 1) nan) (evenSum n (pairs n xs) u) ≡ imdctSum n xs (n + u)
         go true e = second-sum u (ltb-true u (n / 2) e)
-        go false e = second-sum (n - 1 - u) (below (ltb-false u (n / 2) e)) ∙ sum-even n xs u z l
-
--- a list by index, in two parts
-tab-parts : {A : Type 0} (f : ℕ → A) (m n : ℕ) → tab f m ++ tab (λ (i : ℕ). f (m + i)) n ≡ tab f (m + n)
-unfolding tab
-tab-parts f m zero = append-nil (tab f m) ∙ ap (tab f) (sym (add-zero m))
-tab-parts f m (suc n) =
-    sym (append-assoc (tab f m) (tab (λ (i : ℕ). f (m + i)) n) (f (m + n) ∷ []))
-    ∙ ap (λ z. z ++ (f (m + n) ∷ [])) (tab-parts f m n) ∙ ap (tab f) (sym (add-suc m n))
+        go false e = even-past (ltb-false u (n / 2) e)
 
 -- the outputs by half of the sums are the transform's
 pub mirrored-same : (n : ℕ) (xs : List Float) → isFrameSize n ≡ true → mirrored n xs .outputs ≡ imdct n xs
@@ -104,8 +103,7 @@ mirrored-same n xs f =
     let m : n + n ≡ 2 * n = omega arith in
     ap (mirroredOutputs n) (pair-values n xs)
     ∙ ap (λ y. y ++ tab (evenAt n (pairs n xs)) n) (tab-same _ _ n (odd-is n xs z))
-    ∙ ap (λ y. tab (imdctAt n xs) n ++ y) (tab-same _ _ n (even-is n xs z))
-    ∙ tab-parts (imdctAt n xs) n n ∙ ap (tab (imdctAt n xs)) m
+    ∙ tab-run (imdctAt n xs) (evenAt n (pairs n xs)) n n (even-is n xs z) ∙ ap (tab (imdctAt n xs)) m
 
 -- ---- zeros
 

@@ -9,7 +9,7 @@ use Rattle.loops.specs.Front.{tab}
 use Rattle.loops.specs.Reply.{Reply, replyIf}
 use Rattle.float_sign.specs.Sign.{turned}
 use Rattle.mdct.specs.Imdct.{halfOf, imdctTakes}
-use Rattle.mdct_pairs.specs.Work.{Work, total, allSums, pairSums}
+use Rattle.mdct_pairs.specs.Work.{total, allSums, pairSums}
 use Rattle.mdct_pairs.specs.Pairs.{values}
 
 -- outputs, and how many products were made for them
@@ -24,13 +24,20 @@ transformed outputs products = record { outputs = outputs; products = products }
 unfoldable pub direct : ℕ → List Float → Transform
 direct n xs = transformed (map halfOf (values (allSums n xs))) (total (allSums n xs))
 
--- Output u of the first half: past the middle, the sum at the mirrored place with its sign turned. A sum that is zero is +0 in both places.
-unfoldable pub oddAt : ℕ → List Float → ℕ → Float
-oddAt n sums u = halfOf (cond (ltb u (n / 2)) (getD sums (2 * u) nan) (turned (getD sums (2 * (n - 1 - u)) nan)))
+-- The sum of output u past the middle of the first half: that of the mirrored place with its sign turned. A sum that is zero is +0 in both places.
+unfoldable pub oddSum : ℕ → List Float → ℕ → Float
+oddSum n sums u = turned (getD sums (2 * (n - 1 - u)) nan)
 
--- output u of the second half: past the middle, the sum at the mirrored place
+-- past the middle of the second half: that of the mirrored place
+unfoldable pub evenSum : ℕ → List Float → ℕ → Float
+evenSum n sums u = getD sums (2 * (n - 1 - u) + 1) nan
+
+-- output u of either half
+unfoldable pub oddAt : ℕ → List Float → ℕ → Float
+oddAt n sums u = halfOf (cond (ltb u (n / 2)) (getD sums (2 * u) nan) (oddSum n sums u))
+
 unfoldable pub evenAt : ℕ → List Float → ℕ → Float
-evenAt n sums u = halfOf (cond (ltb u (n / 2)) (getD sums (2 * u + 1) nan) (getD sums (2 * (n - 1 - u) + 1) nan))
+evenAt n sums u = halfOf (cond (ltb u (n / 2)) (getD sums (2 * u + 1) nan) (evenSum n sums u))
 
 -- the outputs from half of the sums
 unfoldable pub mirroredOutputs : ℕ → List Float → List Float

@@ -1,18 +1,16 @@
 -- The cosines that a pair of outputs reads, as steps round the circle, a quarter of it apart.
 use mathlib.Core.Path.{_≡_, ap, ap₂, _∙_, sym}
 use mathlib.Core.List.{List}
-use mathlib.Core.Bool.{Bool, true, false, cond}
 use mathlib.Core.Logic.{⊎-elim}
-use Prim.Native.Nat.{ℕ, _+_, _*_, _/_, _%_, _^_, _≤_, _<_}
+use Prim.Native.Nat.{ℕ, _+_, _*_, _/_, _%_}
 use native.Mathlib.Omega.{arith}
-use native.Mathlib.Nat.{mul-comm, mul-assoc, mul-add, div-add-mod', mod-add-mod, mod-lt, mod-eq-of-lt, add-mul-mod-self-left}
+use native.Mathlib.Nat.{mul-comm, mul-assoc, mul-add, div-add-mod', mod-add-mod, add-mul-mod-self-left}
 use lib.ListN.{getD}
 use lib.Ieee.{Float, nan, binary64, mul, neg}
-use lib.Dec.{eqb}
 use borrow.Author.Tests.{eq-eqb, ne-eqb}
 use Rattle.float_sign.specs.Sign.{mul-both}
 use Rattle.cosine_circle.specs.Circle.{cosAt}
-use Rattle.cosine_circle.proofs.Sizes.{Size, whole, at-least}
+use Rattle.cosine_circle.proofs.Sizes.{Size, whole}
 use Rattle.mdct.specs.Imdct.{angle, imdctTerm}
 use Rattle.mdct.proofs.Angles.{halfSteps, place, on-circle, odd-parts}
 use Rattle.cosine_pairs.specs.Pairs.{stepCos, pairAt}

@@ -1,13 +1,12 @@
 -- What the functions that call others rest on.
 use mathlib.Core.Path.{_≡_, refl, ap, ap₂, _∙_, sym}
-use mathlib.Core.List.{List, _∷_, _++_}
+use mathlib.Core.List.{List, _++_}
 use mathlib.Core.Bool.{Bool, true, false, _&&_}
-use Prim.Native.Nat.{ℕ, zero, suc, _+_, _*_, _%_, _^_, _≤_, _<_}
+use Prim.Native.Nat.{ℕ, _+_, _*_, _%_, _^_, _≤_, _<_}
 use native.Mathlib.Omega.{arith}
 use native.Mathlib.Nat.{one-mul}
 use lib.Pow.{pow-pos, pow-mono, shl-exact}
-use lib.ListN.{length, take, drop, replicate, length-append, length-replicate}
-use lib.Seq.{length-take-le, take-at}
+use lib.ListN.{length, take, drop, replicate}
 use lib.Dec.{leb, ltb, eqb, lit<}
 use lib.Ieee.{Float}
 use borrow.Author.Tests.{leb-true, ltb-true, eq-eqb, ne-eqb}
@@ -16,7 +15,10 @@ use Rattle.loops.specs.Logic.{and-true, and-first, and-second}
 use Rattle.loops.specs.Reply.{reply, replyIf, reply-yes, reply-no}
 use Rattle.buffers.specs.Buffers.{zero32}
 use Rattle.cosine_circle.specs.Circle.{isFrameSize, size-is-frame}
-use Rattle.mdct.specs.Imdct.{imdct, imdctTakes, imdctReply, takes-frame, reply-outputs}
+use Rattle.mdct.specs.Imdct.{imdct}
+use Rattle.mdct_pairs.proofs.Lent as lent
+use Rattle.mdct_mirrored.specs.Mirrored.{transformed, mirroredReply}
+use Rattle.mdct_mirrored.proofs.Calls.{reply-same}
 use Rattle.noise_spectrum.specs.Spectrum.{spectrum}
 use Rattle.noise_block.specs.Block.{windowed, Block, drawnBlock, noiseBlock}
 use Rattle.noise_block.specs.Call.{settingsFit, blockTakes}
@@ -34,42 +36,36 @@ factor-in lm x h e =
 
 -- ---- the first k of an array of n zeros, lent and come back as y
 
-take-zeros : (k n : ℕ) → k ≤ n → take k (replicate n zero32) ≡ replicate k zero32
-take-zeros zero n h = refl
-take-zeros (suc k) zero h = let z : ⊥ = omega arith in absurd z
-take-zeros (suc k) (suc n) h = ap (λ z. zero32 ∷ z) (take-zeros k n (omega arith))
-
 module _ (k n : ℕ) (h : k ≤ n) where
   pub lent-zeros : take k (replicate n zero32) ≡ replicate k zero32
-  lent-zeros = take-zeros k n h
+  lent-zeros = lent.lent-values zero32 k n h
 
   pub lent-count : k ≡ length (take k (replicate n zero32))
-  lent-count = sym (length-take-le k (replicate n zero32) (omega (arith, length-replicate n zero32)))
+  lent-count = lent.lent-count zero32 k n h
 
   module _ (y : List Float) (e : length y ≡ length (take k (replicate n zero32))) where
     pub back-size : length y ≡ k
-    back-size = e ∙ sym lent-count
+    back-size = lent.back-size zero32 k n h y e
 
     pub back-is : take k (y ++ drop k (replicate n zero32)) ≡ y
-    back-is = take-at y (drop k (replicate n zero32)) k back-size
+    back-is = lent.back-is zero32 k n h y e
 
     pub back-in : k ≤ length (y ++ drop k (replicate n zero32))
-    back-in = omega (arith, length-append y (drop k (replicate n zero32)), back-size)
+    back-in = lent.back-in zero32 k n h y e
 
     pub back-count : k ≡ length (take k (y ++ drop k (replicate n zero32)))
-    back-count = sym (ap length back-is ∙ back-size)
+    back-count = lent.back-count zero32 k n h y e
 
 -- ---- the block
 
-pub block-is : (m start end d seed : ℕ) (energies f xs out u us w : List Float) (took : Bool) → isFrameSize (120 * m) ≡ true → xs ≡ f
-    → f ≡ spectrum m start end d seed energies → length f ≡ 120 * m → length out ≡ 2 * (120 * m) → reply took u ≡ imdctReply xs out → us ≡ u
+pub block-is : (m start end d seed : ℕ) (energies f xs out u us w : List Float) (took : Bool) (p : ℕ) → isFrameSize (120 * m) ≡ true → xs ≡ f
+    → f ≡ spectrum m start end d seed energies → length f ≡ 120 * m → length out ≡ 2 * (120 * m) → reply took (transformed u p) ≡ mirroredReply xs out → us ≡ u
     → w ≡ tab (windowed (120 * m) us) (120 * m + 120)
     → w ≡ noiseBlock m start end d seed energies .samples
 unfolding noiseBlock
-block-is m start end d seed energies f xs out u us w took s ex ef lf lo eu es ew =
+block-is m start end d seed energies f xs out u us w took p s ex ef lf lo eu es ew =
     let l : length xs ≡ 120 * m = ap length ex ∙ lf in
-    let t : imdctTakes (length xs) (length out) ≡ true = takes-frame (length xs) (length out) (ap isFrameSize l ∙ s) (omega arith) in
-    let v : u ≡ imdct (120 * m) (spectrum m start end d seed energies) = reply-outputs xs out eu t ∙ ap₂ imdct l (ex ∙ ef) in
+    let v : u ≡ imdct (120 * m) (spectrum m start end d seed energies) = reply-same xs out u p took (ap isFrameSize l ∙ s) (omega arith) eu ∙ ap₂ imdct l (ex ∙ ef) in
     ew ∙ ap (λ z. tab (windowed (120 * m) z) (120 * m + 120)) (es ∙ v)
 
 -- ---- refusals

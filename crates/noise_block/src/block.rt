@@ -3,7 +3,7 @@ use celt_window::low_overlap_window;
 use celt_window::window;
 use custom_mode::standard::OVERLAP;
 use custom_mode::standard::SHORT_BLOCK;
-use mdct::imdct::imdct_naive_f32;
+use mdct_mirrored::imdct_mirrored_f32;
 use noise_spectrum::noise_spectrum;
 ghost use mathlib.Core.Path.{_≡_};
 ghost use mathlib.Core.Bool.{true};
@@ -50,7 +50,7 @@ pub(crate) fn fill_block(
     let mut bins = [0.0f32; FRAME_MOST];
     let mut u = [0.0f32; 2 * FRAME_MOST];
     let drawn = noise_spectrum(&mut bins[..n], m, start, end, downsample, seed, energies);
-    imdct_naive_f32(&bins[..n], &mut u[..k]);
+    imdct_mirrored_f32(&bins[..n], &mut u[..k]);
     window_outputs(block, &u[..k], n);
     drawn.seed
 }

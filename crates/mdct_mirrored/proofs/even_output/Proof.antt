@@ -1,6 +1,7 @@
 -- `mdct_mirrored::even_output` meets its contract: the sum before the middle, or the mirrored one.
 use borrow.Author.Needs.{needs}
 use Rattle.mdct.specs.Imdct.{halfOf}
+use Rattle.mdct_mirrored.specs.Mirrored.{evenSum}
 use Rattle.mdct_mirrored.proofs.Halves.{even-before, even-past}
 use Rattle.mdct_mirrored.proofs.even_output.Statement.{statement}
 use Rattle.mdct_mirrored.proofs.even_output.Tie as tie
@@ -46,7 +47,7 @@ f64-to-f32-requires-2 : tie.Need-f64-to-f32-requires-2
 f64-to-f32-requires-2 c κs = search needs
 
 returns-2 : tie.Need-returns-2
-unfolding halfOf
+unfolding halfOf evenSum
 returns-2 c = even-past _ _ _ _ (c .before .before .if1 .left) (c .f64-to-f322 .ensures)
 
 pub even-output-spec : {M : Type 1} → statement M

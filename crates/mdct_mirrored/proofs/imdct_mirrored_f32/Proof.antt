@@ -1,12 +1,8 @@
-use mathlib.Core.Path.{_≡_, refl, ap, _∙_, sym}
-use mathlib.Core.List.{List, [], _∷_, _++_}
-use mathlib.Core.Logic.{⊎-elim}
-use Prim.Native.Nat.{ℕ, zero, suc, _+_, _≤_, _<_, _-_}
-use native.Mathlib.Omega.{arith}
-use native.Mathlib.Numerals.{add-one}
-use lib.ListN.{length, getD, set, take, drop, length-set}
+-- `mdct_mirrored::imdct_mirrored_f32` meets its contract: two refusals that touch nothing, and the outputs from the sums.
+use mathlib.Core.Path.{_≡_, ap, _∙_, sym}
+use Prim.Native.Nat.{ℕ, _≤_, _*_, _%_}
+use lib.ListN.{length}
 use borrow.Author.Needs.{needs}
-use Prim.Native.Nat.{_*_, _%_}
 use mathlib.Core.Bool.{true}
 use lib.Ieee.{binary64, ofBits}
 use borrow.Author.Tests.{not-true, not-false}
@@ -16,11 +12,6 @@ use Rattle.mdct_pairs.proofs.Lent.{lent-count, back-size, back-is, back-in, bac
 use Rattle.mdct_mirrored.proofs.Calls.{summed-is, taken, no-size, no-room}
 use Rattle.mdct_mirrored.proofs.imdct_mirrored_f32.Statement.{statement}
 use Rattle.mdct_mirrored.proofs.imdct_mirrored_f32.Tie as tie
-use Rattle.mdct_mirrored.proofs.imdct_mirrored_f32.Reads as reads
-use Rattle.mdct_mirrored.proofs.imdct_mirrored_f32.Lts as lts
-use Rattle.cosine_circle.proofs.is_frame_size.Reads as is-frame-size-reads
-use Rattle.mdct_mirrored.proofs.outputs.Reads as outputs-reads
-use Rattle.mdct_pairs.proofs.pair_sums.Reads as pair-sums-reads
 
 -- past both refusals
 module _ (c : tie.Else2) where

@@ -2,6 +2,7 @@
 use borrow.Author.Needs.{needs}
 use Rattle.float_sign.specs.Sign.{turned}
 use Rattle.mdct.specs.Imdct.{halfOf}
+use Rattle.mdct_mirrored.specs.Mirrored.{oddSum}
 use Rattle.mdct_mirrored.proofs.Halves.{odd-before, odd-past}
 use Rattle.mdct_mirrored.proofs.odd_output.Statement.{statement}
 use Rattle.mdct_mirrored.proofs.odd_output.Tie as tie
@@ -41,7 +42,7 @@ f64-to-f32-requires-2 : tie.Need-f64-to-f32-requires-2
 f64-to-f32-requires-2 c κs = search needs
 
 returns-2 : tie.Need-returns-2
-unfolding halfOf turned
+unfolding halfOf oddSum turned
 returns-2 c = odd-past _ _ _ _ (c .before .before .if1 .left) (c .f64-to-f322 .ensures)
 
 pub odd-output-spec : {M : Type 1} → statement M

@@ -1,20 +1,14 @@
-use mathlib.Core.Path.{_≡_, refl, ap, _∙_, sym}
-use mathlib.Core.List.{List, [], _∷_, _++_}
-use mathlib.Core.Logic.{⊎-elim}
-use Prim.Native.Nat.{ℕ, zero, suc, _+_, _≤_, _<_, _-_}
+-- `mdct_pairs::long_sums` meets its contract: every frame's tables lie within the longest's.
+use mathlib.Core.Path.{sym}
+use Prim.Native.Nat.{ℕ, _≤_, _*_}
 use native.Mathlib.Omega.{arith}
-use native.Mathlib.Numerals.{add-one}
-use lib.ListN.{length, getD, set, take, drop, length-set}
+use lib.ListN.{length}
 use borrow.Author.Needs.{needs}
-use Prim.Native.Nat.{_*_}
 use lib.Ieee.{binary64, ofBits}
 use Rattle.cosine_circle.proofs.Sizes.{sized, at-most}
 use Rattle.mdct_pairs.proofs.Lent.{lent-count}
 use Rattle.mdct_pairs.proofs.long_sums.Statement.{statement}
 use Rattle.mdct_pairs.proofs.long_sums.Tie as tie
-use Rattle.mdct_pairs.proofs.long_sums.Reads as reads
-use Rattle.mdct_pairs.proofs.long_sums.Lts as lts
-use Rattle.mdct_pairs.proofs.sums_by_tables.Reads as sums-by-tables-reads
 
 module _ (a : tie.Start) where
   abbrev frame : ℕ

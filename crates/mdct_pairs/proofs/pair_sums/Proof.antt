@@ -1,12 +1,9 @@
-use mathlib.Core.Path.{_≡_, refl, ap, _∙_, sym}
-use mathlib.Core.List.{List, [], _∷_, _++_}
-use mathlib.Core.Logic.{⊎-elim}
-use Prim.Native.Nat.{ℕ, zero, suc, _+_, _≤_, _<_, _-_}
-use native.Mathlib.Omega.{arith}
-use native.Mathlib.Numerals.{add-one}
-use lib.ListN.{length, getD, set, take, drop, length-set}
+-- `mdct_pairs::pair_sums` meets its contract: two refusals that touch nothing, and the sums, by one pair of tables or the other.
+use mathlib.Core.Path.{_≡_, refl, _∙_, sym, ap₂}
+use mathlib.Core.List.{List}
+use Prim.Native.Nat.{ℕ}
+use lib.ListN.{length}
 use borrow.Author.Needs.{needs}
-use mathlib.Core.Path.{ap₂}
 use mathlib.Core.Bool.{true, false}
 use lib.Ieee.{Float}
 use borrow.Author.Tests.{not-true, not-false, eq-eqb, ne-eqb}
@@ -17,11 +14,6 @@ use Rattle.mdct_pairs.specs.Work.{total, pairSums}
 use Rattle.mdct_pairs.specs.Pairs.{pairTakes, pairReply, summed, values}
 use Rattle.mdct_pairs.proofs.pair_sums.Statement.{statement}
 use Rattle.mdct_pairs.proofs.pair_sums.Tie as tie
-use Rattle.mdct_pairs.proofs.pair_sums.Reads as reads
-use Rattle.mdct_pairs.proofs.pair_sums.Lts as lts
-use Rattle.cosine_circle.proofs.is_frame_size.Reads as is-frame-size-reads
-use Rattle.mdct_pairs.proofs.long_sums.Reads as long-sums-reads
-use Rattle.mdct_pairs.proofs.short_sums.Reads as short-sums-reads
 
 module _ (xs was : List Float) where
   taken : (y : List Float) (p : ℕ) → isFrameSize (length xs) ≡ true → length was ≡ length xs

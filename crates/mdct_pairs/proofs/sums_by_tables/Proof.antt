@@ -1,12 +1,9 @@
-use mathlib.Core.Path.{_≡_, refl, ap, _∙_, sym}
-use mathlib.Core.List.{List, [], _∷_, _++_}
-use mathlib.Core.Logic.{⊎-elim}
-use Prim.Native.Nat.{ℕ, zero, suc, _+_, _≤_, _<_, _-_}
-use native.Mathlib.Omega.{arith}
-use native.Mathlib.Numerals.{add-one}
-use lib.ListN.{length, getD, set, take, drop, length-set}
+-- `mdct_pairs::sums_by_tables` meets its contract: the tables are of the lengths that their makers ask for.
+use mathlib.Core.Path.{_≡_}
+use mathlib.Core.List.{List}
+use Prim.Native.Nat.{ℕ, _*_}
+use lib.ListN.{length}
 use borrow.Author.Needs.{needs}
-use Prim.Native.Nat.{_*_}
 use mathlib.Core.Bool.{Bool, true}
 use lib.Ieee.{Float}
 use Rattle.loops.specs.Reply.{reply, reply-lent}
@@ -16,11 +13,6 @@ use Rattle.cosine_pairs.specs.Pairs.{pairsOf, pairsReply}
 use Rattle.cosine_pairs.proofs.Pairs.{takes-frame}
 use Rattle.mdct_pairs.proofs.sums_by_tables.Statement.{statement}
 use Rattle.mdct_pairs.proofs.sums_by_tables.Tie as tie
-use Rattle.mdct_pairs.proofs.sums_by_tables.Reads as reads
-use Rattle.mdct_pairs.proofs.sums_by_tables.Lts as lts
-use Rattle.cosine_pairs.proofs.fill_pairs.Reads as fill-pairs-reads
-use Rattle.mdct_pairs.proofs.frame.fill_sums.Reads as fill-sums-reads
-use Rattle.mdct_pairs.proofs.inputs.fill_inputs.Reads as fill-inputs-reads
 
 pairs-filled : (n : ℕ) (was y : List Float) (r : Bool) → isFrameSize n ≡ true → length was ≡ 12 * n → reply r y ≡ pairsReply n was → y ≡ pairsOf n
 unfolding pairsReply

@@ -1,13 +1,10 @@
-use mathlib.Core.Path.{_≡_, refl, ap, _∙_, sym}
-use mathlib.Core.List.{List, [], _∷_, _++_}
-use mathlib.Core.Logic.{⊎-elim}
-use Prim.Native.Nat.{ℕ, zero, suc, _+_, _≤_, _<_, _-_}
+-- `frame::fill_sums` meets its contract: the first t sums are in place, t being a multiple of 8, and t times n products were made for them.
+use mathlib.Core.Path.{_≡_, refl, ap, _∙_, sym, ap₂}
+use mathlib.Core.List.{List}
+use Prim.Native.Nat.{ℕ, _+_, _≤_, _<_, _-_, _*_, _/_, _%_, _^_}
 use native.Mathlib.Omega.{arith}
-use native.Mathlib.Numerals.{add-one}
-use lib.ListN.{length, getD, set, take, drop, length-set}
+use lib.ListN.{length, getD}
 use borrow.Author.Needs.{needs}
-use Prim.Native.Nat.{_*_, _/_, _%_, _^_}
-use mathlib.Core.Path.{ap₂}
 use native.Mathlib.Nat.{add-mul, mul-le-mul}
 use lib.Ieee.{Float, nan}
 use Rattle.loops.specs.Front.{front, tab, tab-none, tab-all, getD-tab}
@@ -17,10 +14,6 @@ use Rattle.mdct.proofs.Fronts.{rest-all}
 use Rattle.mdct_pairs.proofs.Works.{pair-values, pair-products}
 use Rattle.mdct_pairs.proofs.frame.fill_sums.Statement.{statement}
 use Rattle.mdct_pairs.proofs.frame.fill_sums.Tie as tie
-use Rattle.mdct_pairs.proofs.frame.fill_sums.Reads as reads
-use Rattle.mdct_pairs.proofs.frame.fill_sums.Lts as lts
-use Rattle.mdct_pairs.proofs.frame.put.Reads as put-reads
-use Rattle.mdct_pairs.proofs.lanes.four.Reads as four-reads
 
 -- sum j of the frame
 abbrev pairSum : ℕ → List Float → ℕ → Float

@@ -1,18 +1,15 @@
-use mathlib.Core.Path.{_≡_, refl, ap, _∙_, sym}
-use mathlib.Core.List.{List, [], _∷_, _++_}
-use mathlib.Core.Logic.{⊎-elim}
-use Prim.Native.Nat.{ℕ, zero, suc, _+_, _≤_, _<_, _-_}
+-- `frame::put` meets its contract: the sums from t to t + j are in place.
+use mathlib.Core.Path.{_≡_, refl, ap, _∙_}
+use mathlib.Core.List.{_++_}
+use Prim.Native.Nat.{ℕ, _+_, _≤_, _-_}
 use native.Mathlib.Omega.{arith}
-use native.Mathlib.Numerals.{add-one}
-use lib.ListN.{length, getD, set, take, drop, length-set}
+use lib.ListN.{length, getD, take, length-set}
 use borrow.Author.Needs.{needs}
 use lib.Ieee.{nan}
 use Rattle.loops.specs.Front.{front, tab}
 use Rattle.mdct.proofs.Fronts.{rest-none, rest-more}
 use Rattle.mdct_pairs.proofs.frame.put.Statement.{statement}
 use Rattle.mdct_pairs.proofs.frame.put.Tie as tie
-use Rattle.mdct_pairs.proofs.frame.put.Reads as reads
-use Rattle.mdct_pairs.proofs.frame.put.Lts as lts
 
 abbrev Inv-loop : tie.InvT-loop
 Inv-loop eight sums₀ t j₀ sums j = (j ≤ 8) × (length sums ≡ length sums₀) × (sums ≡ front (take t sums₀ ++ tab (λ (j : ℕ). getD eight j nan) j) sums₀ (t + j))

@@ -1,19 +1,14 @@
-use mathlib.Core.Path.{_≡_, refl, ap, _∙_, sym}
-use mathlib.Core.List.{List, [], _∷_, _++_}
-use mathlib.Core.Logic.{⊎-elim}
-use Prim.Native.Nat.{ℕ, zero, suc, _+_, _≤_, _<_, _-_}
+-- `inputs::fill_inputs` meets its contract: the places before i are filled.
+use mathlib.Core.Path.{_≡_, ap, _∙_}
+use Prim.Native.Nat.{_≤_, _-_}
 use native.Mathlib.Omega.{arith}
-use native.Mathlib.Numerals.{add-one}
-use lib.ListN.{length, getD, set, take, drop, length-set}
+use lib.ListN.{length, length-set}
 use borrow.Author.Needs.{needs}
-use Rattle.loops.specs.Front.{front, tab, tab-none, tab-read, tab-more, tab-all}
+use Rattle.loops.specs.Front.{front, tab, tab-none, tab-more, tab-all}
 use lib.Ieee.{nan}
 use Rattle.mdct_pairs.specs.Pairs.{inputAt, inputsOf}
 use Rattle.mdct_pairs.proofs.inputs.fill_inputs.Statement.{statement}
 use Rattle.mdct_pairs.proofs.inputs.fill_inputs.Tie as tie
-use Rattle.mdct_pairs.proofs.inputs.fill_inputs.Reads as reads
-use Rattle.mdct_pairs.proofs.inputs.fill_inputs.Lts as lts
-use Rattle.mdct_pairs.proofs.inputs.input_at.Reads as input-at-reads
 
 abbrev Inv-loop : tie.InvT-loop
 Inv-loop x inputs₀ m i₀ inputs i = (i ≤ m) × (length inputs ≡ m) × (inputs ≡ front (tab (inputAt x) i) inputs₀ i)

@@ -1,19 +1,11 @@
-use mathlib.Core.Path.{_≡_, refl, ap, _∙_, sym}
-use mathlib.Core.List.{List, [], _∷_, _++_}
-use mathlib.Core.Logic.{⊎-elim}
-use Prim.Native.Nat.{ℕ, zero, suc, _+_, _≤_, _<_, _-_}
-use native.Mathlib.Omega.{arith}
-use native.Mathlib.Numerals.{add-one}
-use lib.ListN.{length, getD, set, take, drop, length-set}
+-- `inputs::input_at` meets its contract: the sign by i modulo 4.
+use mathlib.Core.Path.{ap}
 use borrow.Author.Needs.{needs}
 use lib.Ieee.{neg}
 use borrow.Author.Tests.{eq-eqb, ne-eqb}
 use Rattle.mdct_pairs.specs.Pairs.{inputAt}
 use Rattle.mdct_pairs.proofs.inputs.input_at.Statement.{statement}
 use Rattle.mdct_pairs.proofs.inputs.input_at.Tie as tie
-use Rattle.mdct_pairs.proofs.inputs.input_at.Reads as reads
-use Rattle.mdct_pairs.proofs.inputs.input_at.Lts as lts
-use Rattle.float_bits.proofs.formats.f32_to_f64.Reads as f32-to-f64-reads
 
 mul-f32-to-f64 : tie.Need-mul-f32-to-f64
 mul-f32-to-f64 c = search needs

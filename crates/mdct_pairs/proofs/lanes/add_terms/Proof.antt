@@ -1,20 +1,16 @@
-use mathlib.Core.Path.{_≡_, refl, ap, _∙_, sym}
-use mathlib.Core.List.{List, [], _∷_, _++_}
-use mathlib.Core.Logic.{⊎-elim}
-use Prim.Native.Nat.{ℕ, zero, suc, _+_, _≤_, _<_, _-_}
+-- `lanes::add_terms` meets its contract: the sums before e have their term, the others stand as they were.
+use mathlib.Core.Path.{_≡_, ap, _∙_, sym}
+use mathlib.Core.List.{List}
+use Prim.Native.Nat.{ℕ, _+_, _≤_, _<_, _-_, _*_, _/_, _%_}
 use native.Mathlib.Omega.{arith}
-use native.Mathlib.Numerals.{add-one}
-use lib.ListN.{length, getD, set, take, drop, length-set}
+use lib.ListN.{length, getD}
 use borrow.Author.Needs.{needs}
 use Rattle.loops.specs.Front.{front, tab, tab-none, tab-read, tab-more, tab-all}
-use Prim.Native.Nat.{_*_, _/_, _%_}
 use lib.Ieee.{Float, nan, binary64, add, mul}
 use mir.Syntax.{w64}
 use mir.Val.{Fits}
 use Rattle.mdct_pairs.proofs.lanes.add_terms.Statement.{statement}
 use Rattle.mdct_pairs.proofs.lanes.add_terms.Tie as tie
-use Rattle.mdct_pairs.proofs.lanes.add_terms.Reads as reads
-use Rattle.mdct_pairs.proofs.lanes.add_terms.Lts as lts
 
 -- the next sum e
 abbrev summed : List Float → List Float → ℕ → List ℕ → List Float → ℕ → Float

@@ -1,18 +1,12 @@
-use mathlib.Core.Path.{_≡_, refl, ap, _∙_, sym}
-use mathlib.Core.List.{List, [], _∷_, _++_}
-use mathlib.Core.Logic.{⊎-elim}
-use Prim.Native.Nat.{ℕ, zero, suc, _+_, _≤_, _<_, _-_}
+-- `lanes::around` meets its contract: the places before j are in the circle, the others stand as they were.
+use mathlib.Core.Path.{_≡_, ap, _∙_, sym}
+use Prim.Native.Nat.{ℕ, _≤_, _<_, _-_, _%_}
 use native.Mathlib.Omega.{arith}
-use native.Mathlib.Numerals.{add-one}
-use lib.ListN.{length, getD, set, take, drop, length-set}
+use lib.ListN.{length, getD, length-set}
 use borrow.Author.Needs.{needs}
 use Rattle.loops.specs.Front.{front, tab, tab-none, tab-read, tab-more, tab-all}
-use Prim.Native.Nat.{_*_, _%_}
 use Rattle.mdct_pairs.proofs.lanes.around.Statement.{statement}
 use Rattle.mdct_pairs.proofs.lanes.around.Tie as tie
-use Rattle.mdct_pairs.proofs.lanes.around.Reads as reads
-use Rattle.mdct_pairs.proofs.lanes.around.Lts as lts
-use Rattle.mdct_pairs.proofs.lanes.wrapped.Reads as wrapped-reads
 
 abbrev Inv-loop : tie.InvT-loop
 Inv-loop w at₀ j₀ at j = (j ≤ 4) × (length at ≡ 4) × (at ≡ front (tab (λ (j : ℕ). getD at₀ j 0 % w) j) at₀ j)

@@ -1,17 +1,12 @@
-use mathlib.Core.Path.{_≡_, refl, ap, _∙_, sym}
-use mathlib.Core.List.{List, [], _∷_, _++_}
-use mathlib.Core.Logic.{⊎-elim}
-use Prim.Native.Nat.{ℕ, zero, suc, _+_, _≤_, _<_, _-_}
+-- `lanes::first_places` meets its contract: the entries before j are in place.
+use mathlib.Core.Path.{_≡_, refl, ap, _∙_}
+use Prim.Native.Nat.{ℕ, _+_, _≤_, _-_, _*_}
 use native.Mathlib.Omega.{arith}
-use native.Mathlib.Numerals.{add-one}
-use lib.ListN.{length, getD, set, take, drop, length-set}
+use lib.ListN.{length, length-set}
 use borrow.Author.Needs.{needs}
-use Rattle.loops.specs.Front.{front, tab, tab-none, tab-read, tab-more, tab-all}
-use Prim.Native.Nat.{_*_}
+use Rattle.loops.specs.Front.{front, tab, tab-none, tab-more, tab-all}
 use Rattle.mdct_pairs.proofs.lanes.first_places.Statement.{statement}
 use Rattle.mdct_pairs.proofs.lanes.first_places.Tie as tie
-use Rattle.mdct_pairs.proofs.lanes.first_places.Reads as reads
-use Rattle.mdct_pairs.proofs.lanes.first_places.Lts as lts
 
 abbrev Inv-loop : tie.InvT-loop
 Inv-loop t n at₀ j₀ at j = (j ≤ 4) × (length at ≡ 4) × (length at₀ ≡ 4) × (at ≡ front (tab (λ (j : ℕ). 2 * (t + j) + n) j) at₀ j)

@@ -1,27 +1,18 @@
-use mathlib.Core.Path.{_≡_, refl, ap, _∙_, sym}
-use mathlib.Core.List.{List, [], _∷_, _++_}
-use mathlib.Core.Logic.{⊎-elim}
-use Prim.Native.Nat.{ℕ, zero, suc, _+_, _≤_, _<_, _-_}
+-- `lanes::four` meets its contract. With two inputs every lane goes two steps on and is taken back into the circle, and each sum gets two terms more.
+use mathlib.Core.Path.{_≡_, refl, ap, _∙_}
+use mathlib.Core.List.{List}
+use Prim.Native.Nat.{ℕ, _+_, _≤_, _<_, _-_, _*_, _/_, _%_, zero-le}
 use native.Mathlib.Omega.{arith}
-use native.Mathlib.Numerals.{add-one}
-use lib.ListN.{length, getD, set, take, drop, length-set}
-use borrow.Author.Needs.{needs}
-use Prim.Native.Nat.{_*_, _/_, _%_, zero-le}
+use lib.ListN.{length, getD}
 use Rattle.loops.specs.Front.{tab, length-tab}
 use Rattle.mdct.specs.Imdct.{imdctSum}
-use Rattle.cosine_circle.proofs.Sizes.{Size, sized, even, at-least, at-most}
+use Rattle.cosine_circle.proofs.Sizes.{Size, sized, even, at-most}
 use Rattle.mdct.proofs.Lanes.{fewer, next-le}
-use Rattle.cosine_pairs.specs.Pairs.{pairsOf, pairAt}
-use Rattle.mdct_pairs.specs.Pairs.{inputsOf, inputAt}
+use Rattle.cosine_pairs.specs.Pairs.{pairsOf}
+use Rattle.mdct_pairs.specs.Pairs.{inputsOf}
 use Rattle.mdct_pairs.proofs.PairLanes.{places, sums, sums-none, places-none, on-table, before, moved, turned, sums-more, at-count, stepOf, first-on, second-on, third-on, first-in, second-in, first-small, second-small, third-small}
 use Rattle.mdct_pairs.proofs.lanes.four.Statement.{statement}
 use Rattle.mdct_pairs.proofs.lanes.four.Tie as tie
-use Rattle.mdct_pairs.proofs.lanes.four.Reads as reads
-use Rattle.mdct_pairs.proofs.lanes.four.Lts as lts
-use Rattle.mdct_pairs.proofs.lanes.add_terms.Reads as add-terms-reads
-use Rattle.mdct_pairs.proofs.lanes.around.Reads as around-reads
-use Rattle.mdct_pairs.proofs.lanes.first_places.Reads as first-places-reads
-use Rattle.mdct_pairs.proofs.lanes.onward.Reads as onward-reads
 
 abbrev Inv-loop : tie.InvT-loop
 Inv-loop pairs inputs x t n half w step at₀ acc₀ products₀ h₀ at acc products h =

@@ -1,17 +1,13 @@
-use mathlib.Core.Path.{_≡_, refl, ap, _∙_, sym}
-use mathlib.Core.List.{List, [], _∷_, _++_}
-use mathlib.Core.Logic.{⊎-elim}
-use Prim.Native.Nat.{ℕ, zero, suc, _+_, _≤_, _<_, _-_}
+-- `lanes::onward` meets its contract: the places before j are a step on, the others stand as they were.
+use mathlib.Core.Path.{_≡_, ap, _∙_, sym}
+use mathlib.Core.List.{List}
+use Prim.Native.Nat.{ℕ, _+_, _≤_, _<_, _-_, _*_}
 use native.Mathlib.Omega.{arith}
-use native.Mathlib.Numerals.{add-one}
-use lib.ListN.{length, getD, set, take, drop, length-set}
+use lib.ListN.{length, getD, length-set}
 use borrow.Author.Needs.{needs}
 use Rattle.loops.specs.Front.{front, tab, tab-none, tab-read, tab-more, tab-all}
-use Prim.Native.Nat.{_*_}
 use Rattle.mdct_pairs.proofs.lanes.onward.Statement.{statement}
 use Rattle.mdct_pairs.proofs.lanes.onward.Tie as tie
-use Rattle.mdct_pairs.proofs.lanes.onward.Reads as reads
-use Rattle.mdct_pairs.proofs.lanes.onward.Lts as lts
 
 -- the next place of output j
 abbrev moved : ℕ → List ℕ → ℕ → ℕ

@@ -1,16 +1,9 @@
-use mathlib.Core.Path.{_≡_, refl, ap, _∙_, sym}
-use mathlib.Core.List.{List, [], _∷_, _++_}
-use mathlib.Core.Logic.{⊎-elim}
-use Prim.Native.Nat.{ℕ, zero, suc, _+_, _≤_, _<_, _-_}
-use native.Mathlib.Omega.{arith}
-use native.Mathlib.Numerals.{add-one}
-use lib.ListN.{length, getD, set, take, drop, length-set}
+-- `lanes::wrapped` meets its contract: i is less than two turns, so one subtraction is the remainder.
+use mathlib.Core.Path.{_∙_, sym}
 use borrow.Author.Needs.{needs}
 use native.Mathlib.Nat.{mod-eq-of-lt, mod-eq-sub-mod}
 use Rattle.mdct_pairs.proofs.lanes.wrapped.Statement.{statement}
 use Rattle.mdct_pairs.proofs.lanes.wrapped.Tie as tie
-use Rattle.mdct_pairs.proofs.lanes.wrapped.Reads as reads
-use Rattle.mdct_pairs.proofs.lanes.wrapped.Lts as lts
 
 returns : tie.Need-returns
 returns c = sym (mod-eq-of-lt (c .if1 .taken))

@@ -39,8 +39,8 @@ array-share-prefix-bins c =
     let f = c .before .noise-spectrum in
     back-in (120 * o .args .m) 960 (small o) (f .last .0) (f .kept .0)
 
-slice-aggregate-imdct-naive-f32 : tie.Need-slice-aggregate-imdct-naive-f32
-slice-aggregate-imdct-naive-f32 c =
+slice-aggregate-imdct-mirrored-f32 : tie.Need-slice-aggregate-imdct-mirrored-f32
+slice-aggregate-imdct-mirrored-f32 c =
     let o = c .before .before .before .before .before .before in
     let f = c .before .before .noise-spectrum in
     back-count (120 * o .args .m) 960 (small o) (f .last .0) (f .kept .0)
@@ -48,30 +48,30 @@ slice-aggregate-imdct-naive-f32 c =
 array-borrow-prefix-u : tie.Need-array-borrow-prefix-u
 array-borrow-prefix-u c = search needs
 
-slice-aggregate-imdct-naive-f32-2 : tie.Need-slice-aggregate-imdct-naive-f32-2
-slice-aggregate-imdct-naive-f32-2 c =
+slice-aggregate-imdct-mirrored-f32-2 : tie.Need-slice-aggregate-imdct-mirrored-f32-2
+slice-aggregate-imdct-mirrored-f32-2 c =
     let o = c .before .before .before .before .before .before .before in
     lent-count (2 * (120 * o .args .m)) 1920 (twice o)
 
-imdct-naive-f32-requires : tie.Need-imdct-naive-f32-requires
-imdct-naive-f32-requires c κs = search needs
+imdct-mirrored-f32-requires : tie.Need-imdct-mirrored-f32-requires
+imdct-mirrored-f32-requires c κs = search needs
 
 array-share-prefix-u : tie.Need-array-share-prefix-u
 array-share-prefix-u c =
     let o = c .before .before .before .before .before .before .before .before .before .before in
-    let i = c .before .before .imdct-naive-f32 in
+    let i = c .before .before .imdct-mirrored-f32 in
     back-in (2 * (120 * o .args .m)) 1920 (twice o) (i .last .1 .0) (i .kept .1 .0)
 
 slice-aggregate-window-outputs : tie.Need-slice-aggregate-window-outputs
 slice-aggregate-window-outputs c =
     let o = c .before .before .before .before .before .before .before .before .before .before .before in
-    let i = c .before .before .before .imdct-naive-f32 in
+    let i = c .before .before .before .imdct-mirrored-f32 in
     back-count (2 * (120 * o .args .m)) 1920 (twice o) (i .last .1 .0) (i .kept .1 .0)
 
 window-outputs-requires : tie.Need-window-outputs-requires
 window-outputs-requires c κs =
     let o = c .before .before .before .before .before .before .before .before .before .before .before in
-    let i = c .before .before .before .imdct-naive-f32 in
+    let i = c .before .before .before .imdct-mirrored-f32 in
     let p = o .pre in
     (few o, small o, sym (back-count (2 * (120 * o .args .m)) 1920 (twice o) (i .last .1 .0) (i .kept .1 .0)), p .6)
 
@@ -84,7 +84,7 @@ returns c =
     let o = c .before .before .before .before .before .before .before .before .before .before .before .before .before .before in
     let a = o .args in
     let f = c .before .before .before .before .before .before .before .before .before .before .noise-spectrum in
-    let i = c .before .before .before .before .before .before .imdct-naive-f32 in
+    let i = c .before .before .before .before .before .before .imdct-mirrored-f32 in
     let n = 120 * a .m in
     let fit : Fits (a .m) (a .start) (a .end) (a .downsample) = record { small = o .pre .1; some = o .pre .3; last = o .pre .4; every = o .pre .5 } in
     let s =
@@ -92,7 +92,7 @@ returns c =
     (lent-zeros n 960 (small o)) in (
       s .1,
       block-is (a .m) (a .start) (a .end) (a .downsample) (a .seed) (a .energies .now) (f .last .0) _ _ (i .last .1 .0) _
-          (c .before .before .window-outputs .last .0) (i .result)
+          (c .before .before .window-outputs .last .0) (i .result .taken) (i .result .products)
           (o .pre .2) (back-is n 960 (small o) (f .last .0) (f .kept .0)) (s .0) (back-size n 960 (small o) (f .last .0) (f .kept .0))
           (sym (lent-count (2 * n) 1920 (twice o))) (i .ensures)
           (back-is (2 * n) 1920 (twice o) (i .last .1 .0) (i .kept .1 .0)) (c .before .before .window-outputs .ensures),
@@ -108,10 +108,10 @@ fill-block-spec =
     slice-aggregate-noise-spectrum
     noise-spectrum-requires
     array-share-prefix-bins
-    slice-aggregate-imdct-naive-f32
+    slice-aggregate-imdct-mirrored-f32
     array-borrow-prefix-u
-    slice-aggregate-imdct-naive-f32-2
-    imdct-naive-f32-requires
+    slice-aggregate-imdct-mirrored-f32-2
+    imdct-mirrored-f32-requires
     array-share-prefix-u
     slice-aggregate-window-outputs
     window-outputs-requires
