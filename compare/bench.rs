@@ -29,6 +29,7 @@ extern "C" {
     fn leaf_pitch_search(y: *const f32) -> usize;
     fn leaf_renormalise_vector(x: *mut f32, n: usize);
     fn leaf_imdct(spectrum: *const f32, n: usize, out: *mut f32, m: usize) -> bool;
+    fn leaf_imdct_mirrored(spectrum: *const f32, n: usize, out: *mut f32, m: usize) -> usize;
     fn leaf_decode_lost(
         w: *mut u32,
         gain: f32,
@@ -318,7 +319,16 @@ fn main() {
         let ours = least(rounds, spectrum, 2 * n, |x, out| unsafe {
             leaf_imdct(x.as_ptr(), x.len(), out.as_mut_ptr(), out.len());
         });
-        row(&format!("cosine sum, N {n}, beside imdct_cached_f32"), ours, (published.0, standin.1));
+        row(&format!("cosine sum, N {n}, beside imdct_cached_f32"), ours, (published.0, standin.1.clone()));
+        #[cfg(leaf_imdct_mirrored)]
+        {
+            let mut products = 0;
+            let ours = least(rounds, spectrum, 2 * n, |x, out| unsafe {
+                products = leaf_imdct_mirrored(x.as_ptr(), x.len(), out.as_mut_ptr(), out.len());
+            });
+            assert_eq!(products, n * n);
+            row(&format!("half of the cosine sums, N {n}"), ours, (published.0, standin.1));
+        }
     }
     #[cfg(leaf_decode_lost)]
     for (name, losses) in [("first pitch loss", 0), ("repeated pitch loss", 2), ("noise loss", 6)] {

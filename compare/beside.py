@@ -92,8 +92,9 @@ def split_records(answers):
     return out
 
 
-def compare_records(todo, left, right, tally=None):
-    """Records (category, state) through two programs; gives the left's new records too."""
+def compare_records(todo, left, right, tally=None, done=0):
+    """Records (category, state) through two programs; gives the left's new records too. `done` is how
+    many came before them."""
     tally, new = tally or Tally(), []
     for begin in range(0, len(todo), 1000):
         block = todo[begin : begin + 1000]
@@ -103,7 +104,7 @@ def compare_records(todo, left, right, tally=None):
         for n, (category, _) in enumerate(block):
             a = ones[n] if n < len(ones) else b""
             b = others[n] if n < len(others) else b""
-            tally.add(category, a == b and a, lambda: f"record {begin + n}, {first_unlike(a, b)}")
+            tally.add(category, a == b and a, lambda: f"record {done + begin + n}, {first_unlike(a, b)}")
         if len(one) != len(other):
             tally.add("whole answer", False, lambda: f"{len(one)} and {len(other)} bytes")
         new += [a[-RECORD:] for a in ones]

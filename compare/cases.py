@@ -411,6 +411,29 @@ class Cases:
         for entry in entries:
             for up in (True, False):
                 yield "last bit", self.halfway.spectrum(rng, n, entry, up)
+        yield from self.mirrors(rng, n, few)
+
+    def mirrors(self, rng, n, few):
+        """Where an output and its mirror are zeros of like or unlike sign, infinite, NaN or subnormal."""
+        for bins in kept.FAINT[n]:
+            x = array("I", bytes(4 * n))
+            for at, word in bins.items():
+                x[at] = word
+            yield "faint", x
+        for _ in range(few):
+            yield "near zero", w.float_words(self.halfway.near_zero(rng, n))
+        for _ in range(few):
+            yield "zero sums", w.float_words(self.halfway.zero_sum(rng, n))
+        yield "zeros", array("I", [0x80000000]) * n
+        yield "zeros", array("I", [rng.choice(w.ZEROS) for _ in range(n)])
+        for infinite in (w.INFINITIES, w.INFINITIES[:1], w.INFINITIES[1:]):
+            x = w.float_words([rng.gauss(0, 1) for _ in range(n)])
+            for at, word in zip(rng.sample(range(n), 2), infinite):
+                x[at] = word
+            yield "infinities", x
+        for _ in range(few):
+            size = 2.0 ** rng.uniform(-149, -127)
+            yield "subnormal", w.float_words([rng.choice([0, rng.uniform(-size, size)]) for _ in range(n)])
 
     # Parts of decode_lost.
     def frames(self, op, rng):

@@ -4,6 +4,7 @@ Two bins, the others 0: the sum at one output lies exactly halfway between two f
 beside it, so that the next f64 above or below in the table gives another f32."""
 import math
 import struct
+from fractions import Fraction
 
 import tables
 import words as w
@@ -101,6 +102,35 @@ class Halfway:
         out[second] = -out[first] * sign * turned
         out[rng.randrange(second + 1, n)] = rng.uniform(1, 2)
         return out
+
+    def zero_sum(self, rng, n):
+        """Two or four bins of one size that cancel by pairs at some outputs, where the sum is exactly
+        zero. The other bins are zeros of either sign."""
+        t = rng.choice([t for t in range(n // 2) if (2 * t + 1 + n) % 15 == 0])
+        angles = [fold((2 * t + 1 + n) * (2 * k + 1) * (960 // n)) for k in range(n)]
+        entry, _ = rng.choice(angles)
+        like = [k for k in range(n) if angles[k][0] == entry]
+        size = rng.choice([1, -1]) * 10 ** rng.uniform(-40, 38)
+        out = [rng.choice([0.0, -0.0]) for _ in range(n)]
+        for turn, k in enumerate(sorted(rng.sample(like, rng.choice([2, 2, 4])))):
+            out[k] = size * angles[k][1] * (-1) ** turn
+        return out
+
+    def near_zero(self, rng, n):
+        """Two bins that all but cancel at one output of the first half: the sum is not zero, but its half
+        is too small for an f32, so that the output and its mirror are zeros of unlike sign."""
+        while True:
+            t = rng.randrange(n // 2)
+            first, second = sorted(rng.sample(range(n), 2))
+            (j, sign), (j2, sign2) = (fold((2 * t + 1 + n) * (2 * k + 1) * (960 // n)) for k in (first, second))
+            share = (Fraction(self.c[j]) / Fraction(self.c[j2])).limit_denominator(2**23)
+            unit = rng.choice([1, -1]) * 2.0 ** rng.randint(-149, -126)
+            out = [0.0] * n
+            out[first] = share.denominator * unit
+            out[second] = -share.numerator * unit * sign * sign2
+            total = out[first] * (sign * self.c[j]) + out[second] * (sign2 * self.c[j2])
+            if total != 0 and to_f32(0.5 * total) == 0 and share.numerator < 2**24:
+                return out
 
     def noise_loss(self, rng, lm, entry, up):
         """A seed and the energies of bands 0 and 1 with which a noise loss of these two alone tells one

@@ -130,3 +130,14 @@ STORED = [
 ]
 # By lm the cosine whose last bit a wrong build turns.
 COSINES = [1000, 1004, 1002, 1001]
+# By size two spectra, as bins and their words; the other bins are 0. The first has the least subnormal
+# in two bins: sums of exactly zero, +0 at an output of the first half and at its mirror; sums whose half
+# is too small for an f32, zeros of unlike sign there, either way round; and subnormal outputs. The
+# second all but cancels at outputs 30 and 41 of N 120, 18 of N 240, 207 of N 480 and 137 of N 960: +0
+# there and -0 at the mirror. Its other outputs are normal numbers.
+FAINT = {
+    120: [{15: 0x00000001, 95: 0x00000001}, {2: 0x8BEC604A, 17: 0x8C0814B6}],
+    240: [{7: 0x00000001, 120: 0x80000001}, {58: 0x0BFBF522, 155: 0x8C07852D}],
+    480: [{221: 0x00000001, 418: 0x80000001}, {93: 0x0BED8D84, 179: 0x8C5C8E11}],
+    960: [{117: 0x00000001, 629: 0x80000001}, {269: 0x8B5A282E, 798: 0x8B87EF9A}],
+}

@@ -49,6 +49,13 @@ NEW_FRAME = """                for (i, &ev) in e.iter().enumerate().take(frame) 
                 }
 """
 WINDOW = "(std::f64::consts::FRAC_PI_2 * inner * inner).sin() as f32"
+SUMMED = "*slot = (0.5 * acc) as f32;\n        }\n"
+
+
+def mirrored(change):
+    """An edit that works outputs out from their mirrors, for each t below n / 2."""
+    return [("own", SUMMED, f"{SUMMED}        for t in 0..n / 2 {{\n            {change}\n        }}\n")]
+
 
 SLIPS = {
     # plc.rs
@@ -725,6 +732,17 @@ SLIPS = {
          "if k % 2 == 0 { acc += f64::from(x) * circle[angle]; } else { odd += f64::from(x) * circle[angle]; }"),
         ("own", "*slot = (0.5 * acc) as f32;", "*slot = (0.5 * (acc + odd)) as f32;")],
     "angle one bin late": [("own", "(2 * t + 1 + n) * (2 * k + 1)", "(2 * t + 1 + n) * (2 * k + 3)")],
+    "mirrored zero is -0": mirrored("out[n - 1 - t] = -out[t];"),
+    "mirrored zero is -0 (downwards)": mirrored("out[t] = -out[n - 1 - t];"),
+    "mirror asks the f32 result": mirrored("out[n - 1 - t] = if out[t] == 0.0 { 0.0 } else { -out[t] };"),
+    "mirror asks the f32 result (downwards)": mirrored(
+        "out[t] = if out[n - 1 - t] == 0.0 { 0.0 } else { -out[n - 1 - t] };"),
+    "first half mirrored even": mirrored("out[n - 1 - t] = out[t];"),
+    "second half mirrored odd": mirrored("out[2 * n - 1 - t] = -out[n + t];"),
+    "first half mirrored one place off": mirrored("out[n - 1 - t] = -out[t + 1];"),
+    "second half mirrored one place off": mirrored("out[2 * n - 1 - t] = out[n + t + 1];"),
+    "halves mirrored onto each other": mirrored("out[2 * n - 1 - t] = -out[t];"),
+    "products of the direct sum": [("own", "(w.len() * w.len()) as u32", "(2 * w.len() * w.len()) as u32")],
     # The refusals
     "lag 101 passes": [("own", "(102..=720)", "(101..=720)")],
     "lag 102 refused": [("own", "(102..=720)", "(103..=720)")],

@@ -124,6 +124,19 @@ class States:
             out.append(s)
         return out
 
+    def noise_losses(self, count):
+        """So many accepted states whose loss goes by noise, each lm and channel count in turn, with
+        their names: energies ordinary, at the edges, hostile, of silent bands and of cancelling ones."""
+        rng = Random(f"{self.seed} noise losses")
+        makers = [self.comfort_noise, self.energy_edges, self.hostile_energies, self.silent_bands,
+                  self.cancelling_bands, self.mixed_sizes, self.one_place, self.large_counts]
+        for turn in range(count):
+            s = makers[turn // 8 % len(makers)](rng)
+            s[LM], s[CHANNELS] = turn % 4, 1 + turn // 4 % 2
+            if s[START] == 0 and s[LOSSES] < 5:
+                s[LOSSES] = rng.choice([5, 5, 6, 7, 100])
+            yield f"lm {s[LM]}, {'mono' if s[CHANNELS] == 1 else 'stereo'}", s
+
     # An accepted state to start from.
     def base(self, rng, kind):
         s = array("I", bytes(4 * STATE))
@@ -300,6 +313,34 @@ class States:
             s[END] = s[START] + 1
         low = rng.choice([-400, -157, -155, -150])
         s[COARSE:DEEMPH] = w.float_words([rng.uniform(low, low + 8) for _ in range(100)])
+        s[DEEMPH:LPC] = self.zero_words(rng, 2)
+        s[HISTORY:] = self.zero_words(rng, 4336)
+        return s
+
+    def hostile_energies(self, rng):
+        """Noise losses with NaN, infinities, very large, tiny and zero words among the energies, or all
+        over them."""
+        s = self.comfort_noise(rng)
+        share = rng.choice([0.05, 0.3, 1])
+        for i in range(COARSE, DEEMPH):
+            if rng.random() < share:
+                s[i] = rng.choice(w.HOSTILE)
+        return s
+
+    def cancelling_bands(self, rng):
+        """Noise losses of a few bands of one gain, the others silent: bands of one bin cancel at some
+        outputs, and a gain near the least leaves bins of zero and of the least subnormal."""
+        s = self.comfort_noise(rng)
+        if rng.random() < 0.7:
+            s[START], s[END], s[LOSSES] = 0, 21, rng.choice([5, 6, 100])
+        level = rng.choice([-149.5, -149, -148, -146, -130, rng.randint(-20, 32)])
+        dropped = 1.5 if s[LOSSES] == 0 else 0.5
+        s[COARSE:DEEMPH] = w.float_words([-400] * 100)
+        bands = range(s[START], s[END])[: rng.choice([8, 21])]
+        for band in rng.sample(bands, min(rng.choice([2, 2, 3, 8]), len(bands))):
+            for c in (0, 25):
+                s[COARSE + c + band] = w.bits(level - w.MEANS[band] + dropped)
+                s[BACKGROUND + c + band] = w.bits(level - w.MEANS[band])
         s[DEEMPH:LPC] = self.zero_words(rng, 2)
         s[HISTORY:] = self.zero_words(rng, 4336)
         return s

@@ -95,10 +95,11 @@ fn answer(op: u32, w: &[u32]) -> Vec<u32> {
             vec![word(window[(n - 120) / 2 + w[1] as usize])]
         }
         603 => long(standin::cosine_entry(w[0] as usize)).to_vec(),
-        611..=614 => {
-            let mut out = vec![0f32; 2 * w.len()];
-            assert!(ref_decode::transform(&floats(w), &mut out));
-            words(&out)
+        611..=614 => transformed(w),
+        621..=624 => {
+            let mut out = transformed(w);
+            out.push((w.len() * w.len()) as u32);
+            out
         }
         701 => deemphasis(w),
         801 => pitch_loss(w),
@@ -134,6 +135,13 @@ fn downsampled(w: &[u32]) -> Vec<f32> {
 fn best_pair(w: &[u32], max: usize, len: usize) -> Vec<u32> {
     let pair = plc::best_two(&floats(&w[..max]), &floats(&w[max..]), len, max);
     vec![pair[0] as u32, pair[1] as u32]
+}
+
+/// The direct sum, whichever way the answer is worked out on the other side.
+fn transformed(w: &[u32]) -> Vec<u32> {
+    let mut out = vec![0f32; 2 * w.len()];
+    assert!(ref_decode::transform(&floats(w), &mut out));
+    words(&out)
 }
 
 fn deemphasis(w: &[u32]) -> Vec<u32> {

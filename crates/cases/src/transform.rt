@@ -1,8 +1,9 @@
-// Ops 601 to 614: the window, the cosine table and the cosine sum.
+// Ops 601 to 624: the window, the cosine table, the cosine sum and the mirrored one.
 use crate::streams;
 use celt_window::low_overlap_window;
 use celt_window::window;
 use mdct::imdct;
+use mdct_mirrored::imdct_mirrored_f32;
 use sizes::frame_size;
 
 fn answer_window() -> bool {
@@ -45,6 +46,23 @@ fn answer_sum(n: usize, m: usize) -> bool {
     streams::write_first(&out, m)
 }
 
+// The same by half of the sums; gives the number of products.
+fn sum_mirrored(spectrum: &[f32], n: usize, out: &mut [f32], m: usize) -> usize {
+    let bins = streams::at_most(n, spectrum.len());
+    let samples = streams::at_most(m, out.len());
+    let done = imdct_mirrored_f32(&spectrum[..bins], &mut out[..samples]);
+    done.products
+}
+
+fn answer_mirrored(n: usize, m: usize) -> bool {
+    let mut spectrum = [0.0f32; 960];
+    streams::read_part(&mut spectrum, 0, n);
+    let mut out = [0.0f32; 1920];
+    let products = sum_mirrored(&spectrum, n, &mut out, m);
+    streams::write_first(&out, m);
+    streams::write_number(products)
+}
+
 pub(crate) fn answer(op: u32) -> bool {
     match op {
         601 => answer_window(),
@@ -54,6 +72,10 @@ pub(crate) fn answer(op: u32) -> bool {
         612 => answer_sum(240, 480),
         613 => answer_sum(480, 960),
         614 => answer_sum(960, 1920),
+        621 => answer_mirrored(120, 240),
+        622 => answer_mirrored(240, 480),
+        623 => answer_mirrored(480, 960),
+        624 => answer_mirrored(960, 1920),
         _ => false,
     }
 }
