@@ -10,8 +10,8 @@ use Rattle.loops.specs.Logic.{and-both}
 use Rattle.loops.specs.Reply.{reply, reply-lent, reply-yes, reply-no}
 use Rattle.cosine_circle.specs.Circle.{isFrameSize}
 use Rattle.mdct.specs.Imdct.{imdct, takes-frame, takes-no-size, takes-no-room}
-use Rattle.mdct_pairs.specs.Work.{total, pairSums}
-use Rattle.mdct_pairs.specs.Pairs.{pairTakes, pairReply, summed, values, Sums}
+use Rattle.mdct_work.specs.Work.{total, pairSums, values}
+use Rattle.mdct_pairs.specs.Pairs.{pairTakes, pairReply, summed, Sums}
 use Rattle.mdct_mirrored.proofs.Same.{mirrored-same}
 use Rattle.mdct_mirrored.specs.Mirrored.{Transform, mirroredOutputs, mirrored, transformed, mirroredReply}
 

@@ -16,9 +16,8 @@ use Rattle.cosine_circle.specs.Circle.{isFrameSize}
 use Rattle.cosine_circle.proofs.Sizes.{Size, sized, even}
 use Rattle.mdct.specs.Imdct.{imdctSum, halfOf, imdctAt, imdct}
 use Rattle.mdct.proofs.Fronts.{tab-run}
-use Rattle.mdct_pairs.specs.Work.{Work, sumWork, allSums}
-use Rattle.mdct_pairs.specs.Pairs.{values}
-use Rattle.mdct_pairs.proofs.Works.{work-value, work-products, total-tab, map-tab, pair-values, pair-products}
+use Rattle.mdct_work.specs.Work.{Work, sumWork, allSums, values}
+use Rattle.mdct_work.proofs.Works.{work-value, work-products, total-tab, map-tab, pair-values, pair-products}
 use Rattle.mdct_mirrored.specs.Mirrored.{direct, oddSum, evenSum, oddAt, evenAt, mirroredOutputs, mirrored}
 use Rattle.mdct_mirrored.proofs.Mirror.{sum-odd, sum-even}
 

@@ -9,8 +9,7 @@ use Rattle.loops.specs.Front.{tab}
 use Rattle.loops.specs.Reply.{Reply, replyIf}
 use Rattle.float_sign.specs.Sign.{turned}
 use Rattle.mdct.specs.Imdct.{halfOf, imdctTakes}
-use Rattle.mdct_pairs.specs.Work.{total, allSums, pairSums}
-use Rattle.mdct_pairs.specs.Pairs.{values}
+use Rattle.mdct_work.specs.Work.{total, allSums, pairSums, values}
 
 -- outputs, and how many products were made for them
 pub record Transform : Type 0 where

@@ -2,4 +2,3 @@
 pub mod Lent
 pub mod PairLanes
 pub mod Steps
-pub mod Works

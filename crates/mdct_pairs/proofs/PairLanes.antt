@@ -15,7 +15,7 @@ use Rattle.mdct.proofs.Angles.{place, place-less, place-none, place-more}
 use Rattle.mdct.proofs.Fronts.{tab-const}
 use Rattle.cosine_pairs.specs.Pairs.{pairAt, pairsOf}
 use Rattle.cosine_pairs.proofs.Turns.{either}
-use Rattle.mdct_pairs.specs.Pairs.{inputAt, inputsOf}
+use Rattle.mdct_pairs.specs.Inputs.{inputAt, inputsOf}
 use Rattle.mdct_pairs.proofs.Steps.{near-term, far-term}
 
 -- twice as far on a circle of twice as many places

@@ -15,7 +15,7 @@ use Rattle.mdct.specs.Imdct.{angle, imdctTerm}
 use Rattle.mdct.proofs.Angles.{halfSteps, place, on-circle, odd-parts}
 use Rattle.cosine_pairs.specs.Pairs.{stepCos, pairAt}
 use Rattle.cosine_pairs.proofs.Turns.{cos-half, either}
-use Rattle.mdct_pairs.specs.Pairs.{inputAt}
+use Rattle.mdct_pairs.specs.Inputs.{inputAt}
 
 plain : (xs : List Float) (i k : ℕ) → (i % 4 ≡ 3 → ⊥) → i / 2 ≡ k → inputAt xs i ≡ getD xs k nan
 unfolding inputAt

@@ -1,3 +1,3 @@
 -- The sums of the inverse transform, by pairs.
-pub mod Work
 pub mod Pairs
+pub mod Inputs

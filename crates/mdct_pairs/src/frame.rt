@@ -9,8 +9,8 @@ ghost use lib.Ieee.{nan};
 ghost use Rattle.loops.specs.Front.{front, tab};
 ghost use Rattle.cosine_circle.specs.Circle.{isFrameSize};
 ghost use Rattle.cosine_pairs.specs.Pairs.{pairsOf};
-ghost use Rattle.mdct_pairs.specs.Pairs.{inputsOf, values};
-ghost use Rattle.mdct_pairs.specs.Work.{total, pairSums};
+ghost use Rattle.mdct_work.specs.Work.{values, total, pairSums};
+ghost use Rattle.mdct_pairs.specs.Inputs.{inputsOf};
 
 // Puts eight sums into sums from t on.
 fn put(eight: &[f64; 8], sums: &mut [f64], t: usize)

@@ -3,7 +3,7 @@ use float_bits::formats::f32_to_f64;
 ghost use mathlib.Core.Path.{_≡_};
 ghost use Prim.Native.Nat.{_*_, _<_, _≤_};
 ghost use lib.ListN.{length};
-ghost use Rattle.mdct_pairs.specs.Pairs.{inputAt, inputsOf};
+ghost use Rattle.mdct_pairs.specs.Inputs.{inputAt, inputsOf};
 
 // Place i of the inputs in pairs.
 fn input_at(x: &[f32], i: usize) -> f64

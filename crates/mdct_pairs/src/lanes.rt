@@ -8,7 +8,7 @@ ghost use Rattle.loops.specs.Front.{tab};
 ghost use Rattle.cosine_circle.specs.Circle.{isFrameSize};
 ghost use Rattle.mdct.specs.Imdct.{imdctSum};
 ghost use Rattle.cosine_pairs.specs.Pairs.{pairsOf};
-ghost use Rattle.mdct_pairs.specs.Pairs.{inputsOf};
+ghost use Rattle.mdct_pairs.specs.Inputs.{inputsOf};
 
 // Four pairs of sums, and how many products were made for them.
 pub(crate) struct Sums {

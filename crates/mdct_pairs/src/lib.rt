@@ -9,8 +9,8 @@ ghost use Prim.Native.Nat.{_*_};
 ghost use lib.ListN.{length};
 ghost use Rattle.loops.specs.Reply.{reply};
 ghost use Rattle.cosine_circle.specs.Circle.{isFrameSize};
-ghost use Rattle.mdct_pairs.specs.Pairs.{pairReply, summed, values};
-ghost use Rattle.mdct_pairs.specs.Work.{total, pairSums};
+ghost use Rattle.mdct_pairs.specs.Pairs.{pairReply, summed};
+ghost use Rattle.mdct_work.specs.Work.{values, total, pairSums};
 
 mod frame;
 mod inputs;

@@ -10,8 +10,8 @@ use borrow.Author.Tests.{not-true, not-false, eq-eqb, ne-eqb}
 use Rattle.loops.specs.Logic.{and-both, and-first, and-second}
 use Rattle.loops.specs.Reply.{reply, reply-yes, reply-no}
 use Rattle.cosine_circle.specs.Circle.{isFrameSize}
-use Rattle.mdct_pairs.specs.Work.{total, pairSums}
-use Rattle.mdct_pairs.specs.Pairs.{pairTakes, pairReply, summed, values}
+use Rattle.mdct_work.specs.Work.{total, pairSums, values}
+use Rattle.mdct_pairs.specs.Pairs.{pairTakes, pairReply, summed}
 use Rattle.mdct_pairs.proofs.pair_sums.Statement.{statement}
 use Rattle.mdct_pairs.proofs.pair_sums.Tie as tie
 

@@ -11,7 +11,7 @@ use Rattle.loops.specs.Front.{front, tab, tab-none, tab-all, getD-tab}
 use Rattle.cosine_circle.proofs.Sizes.{Size, sized, at-most, next-eight}
 use Rattle.mdct.specs.Imdct.{imdctSum}
 use Rattle.mdct.proofs.Fronts.{rest-all}
-use Rattle.mdct_pairs.proofs.Works.{pair-values, pair-products}
+use Rattle.mdct_work.proofs.Works.{pair-values, pair-products}
 use Rattle.mdct_pairs.proofs.frame.fill_sums.Statement.{statement}
 use Rattle.mdct_pairs.proofs.frame.fill_sums.Tie as tie
 

@@ -6,7 +6,7 @@ use lib.ListN.{length, length-set}
 use borrow.Author.Needs.{needs}
 use Rattle.loops.specs.Front.{front, tab, tab-none, tab-more, tab-all}
 use lib.Ieee.{nan}
-use Rattle.mdct_pairs.specs.Pairs.{inputAt, inputsOf}
+use Rattle.mdct_pairs.specs.Inputs.{inputAt, inputsOf}
 use Rattle.mdct_pairs.proofs.inputs.fill_inputs.Statement.{statement}
 use Rattle.mdct_pairs.proofs.inputs.fill_inputs.Tie as tie
 

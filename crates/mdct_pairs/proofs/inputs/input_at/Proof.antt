@@ -3,7 +3,7 @@ use mathlib.Core.Path.{ap}
 use borrow.Author.Needs.{needs}
 use lib.Ieee.{neg}
 use borrow.Author.Tests.{eq-eqb, ne-eqb}
-use Rattle.mdct_pairs.specs.Pairs.{inputAt}
+use Rattle.mdct_pairs.specs.Inputs.{inputAt}
 use Rattle.mdct_pairs.proofs.inputs.input_at.Statement.{statement}
 use Rattle.mdct_pairs.proofs.inputs.input_at.Tie as tie
 

@@ -1,5 +1,5 @@
 -- The sums of the inverse transform with the products that they take: a product counts itself, and a sum has those of its parts.
-use mathlib.Core.List.{List, [], _∷_}
+use mathlib.Core.List.{List, [], _∷_, map}
 use Prim.Native.Nat.{ℕ, _+_, _*_, _/_, _%_}
 use lib.ListN.{getD}
 use lib.Ieee.{Float, nan, binary64, ofBits, add, mul}
@@ -26,7 +26,10 @@ plus a b = record { value = add binary64 (a .value) (b .value); products = a .pr
 unfoldable pub sumWork : ℕ → List Float → ℕ → Work
 sumWork n xs t = foldTo (λ (s : Work) (k : ℕ). plus s (product (getD xs k nan) (cosAt (angle n t k)))) nothing n
 
--- the products made for all of a list
+-- the values of a list, and the products made for all of it
+unfoldable pub values : List Work → List Float
+values ws = map (λ (w : Work). w .value) ws
+
 unfoldable pub total : List Work → ℕ
 total [] = 0
 total (w ∷ ws) = w .products + total ws

@@ -12,8 +12,7 @@ use Rattle.loops.specs.Sum.{sumTo}
 use Rattle.loops.specs.Front.{tab, tab-same}
 use Rattle.cosine_circle.specs.Circle.{cosAt}
 use Rattle.mdct.specs.Imdct.{angle, imdctTerm, imdctSum}
-use Rattle.mdct_pairs.specs.Work.{Work, nothing, product, plus, sumWork, total, pairSums}
-use Rattle.mdct_pairs.specs.Pairs.{values}
+use Rattle.mdct_work.specs.Work.{Work, nothing, product, plus, sumWork, total, pairSums, values}
 
 -- ---- one sum
 
