@@ -89,12 +89,9 @@ pub turned-is : (x : Float) → T (fits binary64 x) → turned x ≡ plusZero (n
 unfolding turned sub
 turned-is x h = ap (λ (z : Float). add binary64 z (neg x)) zero64 ∙ add-to-zero binary64 (neg x) (neg-fits binary64 x h)
 
--- either zero is turned to +0
+-- a zero stays +0
 pub turned-zero : turned (ofBits binary64 0) ≡ ofBits binary64 0
 turned-zero = ap turned zero64 ∙ turned-is (fin false 0 (pos 0)) (zero-fits false) ∙ plusZero-neg-zero false (pos 0) ∙ sym zero64
-
-pub turned-minus-zero : turned (fin true 0 (pos 0)) ≡ ofBits binary64 0
-turned-minus-zero = turned-is (fin true 0 (pos 0)) (zero-fits true) ∙ plusZero-neg-zero true (pos 0) ∙ sym zero64
 
 zero-equals : (s : Bool) (a b : ℕ) → a ≡ 0 → b ≡ 0 → level s a false b ≡ true
 zero-equals true a b p q = ap (λ (x : ℕ). level true x false b) p ∙ ap (λ (x : ℕ). level true 0 false x) q

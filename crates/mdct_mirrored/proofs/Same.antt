@@ -5,13 +5,13 @@ use mathlib.Core.List.{List, _++_, map}
 use Prim.Native.Nat.{ℕ, _+_, _-_, _*_, _/_, _%_, _≤_, _<_}
 use native.Mathlib.Omega.{arith}
 use native.Mathlib.Nat.{zero-mul, one-mul}
-use lib.Dec.{ltb}
+use lib.Dec.{T, ltb}
 use lib.ListN.{getD}
-use lib.Ieee.{Float, nan, binary32, binary64, ofBits, neg, add, sub, mul}
+use lib.Ieee.{Float, nan, binary32, binary64, ofBits, neg, add, sub, mul, eq, fits}
 use borrow.Author.Tests.{ltb-true, ltb-false}
 use Rattle.loops.specs.Front.{tab, tab-same, getD-tab}
 use Rattle.float_narrow.specs.Narrow.{narrow}
-use Rattle.float_sign.specs.Sign.{turned, turned-zero}
+use Rattle.float_sign.specs.Sign.{turned, turned-zero, turned-other, mul-neg, narrow-neg}
 use Rattle.cosine_circle.specs.Circle.{isFrameSize}
 use Rattle.cosine_circle.proofs.Sizes.{Size, sized, even}
 use Rattle.mdct.specs.Imdct.{imdctSum, halfOf, imdctAt, imdct}
@@ -110,6 +110,13 @@ mirrored-same n xs f =
 pub zero-stays-plus : halfOf (turned (ofBits binary64 0)) ≡ ofBits binary32 0
 unfolding halfOf narrow mul ofBits
 zero-stays-plus = ap halfOf turned-zero
+
+-- any other sum's output has its sign turned there, also where it rounds to zero
+pub other-turns : (x : Float) → T (fits binary64 x) → eq x (ofBits binary64 0) ≡ false → halfOf (turned x) ≡ neg (halfOf x)
+unfolding halfOf
+other-turns x h n =
+    let half = ofBits binary64 0x3fe0_0000_0000_0000 in
+    ap (λ y. narrow (mul binary64 half y)) (turned-other x h n) ∙ ap narrow (mul-neg binary64 half x) ∙ narrow-neg (mul binary64 half x)
 
 -- a sum that is no zero but too small for an f32, as 2 ^ -255: the zero that it rounds to keeps the turned sign
 pub faint-is-zero : halfOf (ofBits binary64 0x3000_0000_0000_0000) ≡ ofBits binary32 0

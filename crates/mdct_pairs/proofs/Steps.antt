@@ -47,10 +47,6 @@ module _ (n : ℕ) (z : Size n) where
       let e : 960 / n * (2 * i + 1) ≡ 960 / n * (2 * r + 1) + 2 * (q * 3840) = ap (λ y. 960 / n * (2 * y + 1)) (sym split) ∙ further r (q * (4 * n)) (q * 3840) turns in
       ap cosAt (omega arith)
 
-  -- two places that are one on the circle
-  step-same : (i j : ℕ) → i % (4 * n) ≡ j % (4 * n) → stepCos n i ≡ stepCos n j
-  step-same i j e = sym (step-around i) ∙ ap (stepCos n) e ∙ step-around j
-
   -- half the circle on
   pub step-half : (i : ℕ) → stepCos n (i + 2 * n) ≡ neg (stepCos n i)
   unfolding stepCos
