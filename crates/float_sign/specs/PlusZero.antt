@@ -3,7 +3,8 @@
 use mathlib.Core.Path.{_≡_, refl, sym, ap, _∙_, subst}
 use mathlib.Core.Bool.{Bool, true, false, not, _&&_, Bool·beq, cond}
 use Prim.Native.Nat.{ℕ, zero, suc, _+_, _-_, _*_, _/_, _%_, _^_, _≤_, _<_, compare}
-use native.Mathlib.Nat.{le-trans, le-of-eq, le-of-lt, lt-of-lt-of-le, lt-irrefl, zero-lt-suc, zero-mul, one-mul, mul-assoc, mul-comm, mul-pos, mul-le-mul, mul-le-mul-right, lt-of-mul-lt-mul-right, suc-mul, sub-add-cancel, sub-zero, sub-eq-zero-of-le, zero-sub, zero-add, le-div-iff-mul-le, div-div-eq-div-mul}
+use native.Mathlib.Nat.{le-trans, le-of-eq, le-of-lt, lt-of-lt-of-le, lt-irrefl, zero-lt-suc, zero-mul, one-mul, mul-assoc, mul-comm, mul-pos}
+use native.Mathlib.Nat.{mul-le-mul, mul-le-mul-right, lt-of-mul-lt-mul-right, suc-mul, sub-add-cancel, sub-zero, sub-eq-zero-of-le, zero-sub, zero-add, le-div-iff-mul-le, div-div-eq-div-mul}
 use native.Mathlib.Omega.{arith}
 use lib.IntN.{ℤ, pos, negsuc}
 use lib.Dec.{T, leb, ltb, ltb→lt, nltb→le, leb→le, nleb→lt}

@@ -2,7 +2,8 @@
 use mathlib.Core.Path.{_≡_, refl, sym, ap, _∙_, subst}
 use mathlib.Core.Bool.{Bool, true, false, not, _&&_, cond}
 use Prim.Native.Nat.{ℕ, zero, suc, _+_, _-_, _*_, _/_, _%_, _^_, _≤_, _<_}
-use native.Mathlib.Nat.{le-trans, le-of-eq, le-of-suc-le-suc, lt-of-lt-of-le, lt-of-not-le, lt-irrefl, zero-mul, one-mul, mul-one, mul-assoc, mul-comm, mul-right-comm, mul-pos, mul-le-mul-right, mul-lt-mul-of-pos-right, lt-of-mul-lt-mul-right, sub-add-cancel}
+use native.Mathlib.Nat.{le-trans, le-of-eq, le-of-suc-le-suc, lt-of-lt-of-le, lt-of-not-le, lt-irrefl, zero-mul, one-mul}
+use native.Mathlib.Nat.{mul-one, mul-assoc, mul-comm, mul-right-comm, mul-pos, mul-le-mul-right, mul-lt-mul-of-pos-right, lt-of-mul-lt-mul-right, sub-add-cancel}
 use lib.IntN.{ℤ, pos, negsuc}
 use lib.Dec.{T, leb, ltb, eqb, ltb→lt, leb→le, eqb→eq}
 use lib.Pow.{pow-add, pow-pos, pow-lt}

@@ -46,10 +46,16 @@ pair-sums-requires : tie.Need-pair-sums-requires
 pair-sums-requires c κs = tt
 
 array-share-prefix-sums : tie.Need-array-share-prefix-sums
-array-share-prefix-sums c = let e = c .before .before .before in back-in (ofBits binary64 0) (frame e) 960 (few e) (c .before .pair-sums .last .1 .0) (c .before .pair-sums .kept .1 .0)
+array-share-prefix-sums c =
+    let e = c .before .before .before in
+    let s = c .before .pair-sums in
+    back-in (ofBits binary64 0) (frame e) 960 (few e) (s .last .1 .0) (s .kept .1 .0)
 
 slice-aggregate-outputs : tie.Need-slice-aggregate-outputs
-slice-aggregate-outputs c = let e = c .before .before .before .before in back-count (ofBits binary64 0) (frame e) 960 (few e) (c .before .before .pair-sums .last .1 .0) (c .before .before .pair-sums .kept .1 .0)
+slice-aggregate-outputs c =
+    let e = c .before .before .before .before in
+    let s = c .before .before .pair-sums in
+    back-count (ofBits binary64 0) (frame e) 960 (few e) (s .last .1 .0) (s .kept .1 .0)
 
 outputs-requires : tie.Need-outputs-requires
 outputs-requires c κs =

@@ -84,7 +84,8 @@ put-requires c κs = let i = c .before .before .before .before in omega (arith, 
 add-products : tie.Need-add-products Inv-loop μ-loop
 add-products c =
     let i = c .before .before .before .before .before .before .before .before in
-    record { fits = few-products _ _ (i .before .loop .t) _ (i .before .loop .inv .4) (c .before .before .before .before .before .before .before .four .ensures .1) (omega (arith, small i)) (small i .1) }
+    let made = c .before .before .before .before .before .before .before .four in
+    record { fits = few-products _ _ (i .before .loop .t) _ (i .before .loop .inv .4) (made .ensures .1) (omega (arith, small i)) (small i .1) }
 
 add-t : tie.Need-add-t Inv-loop μ-loop
 add-t c = let i = c .before .before .before .before .before .before .before .before in record { fits = omega (arith, small i) }

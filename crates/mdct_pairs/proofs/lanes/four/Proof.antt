@@ -10,7 +10,8 @@ use Rattle.cosine_circle.proofs.Sizes.{Size, sized, even, at-most}
 use Rattle.mdct.proofs.Lanes.{fewer, next-le}
 use Rattle.cosine_pairs.specs.Pairs.{pairsOf}
 use Rattle.mdct_pairs.specs.Inputs.{inputsOf}
-use Rattle.mdct_pairs.proofs.PairLanes.{places, sums, sums-none, places-none, on-table, before, moved, turned, sums-more, at-count, stepOf, first-on, second-on, third-on, first-in, second-in, first-small, second-small, third-small}
+use Rattle.mdct_pairs.proofs.PairLanes.{places, sums, sums-none, places-none, on-table, before, moved, turned, sums-more}
+use Rattle.mdct_pairs.proofs.PairLanes.{at-count, stepOf, first-on, second-on, third-on, first-in, second-in, first-small, second-small, third-small}
 use Rattle.mdct_pairs.proofs.lanes.four.Statement.{statement}
 use Rattle.mdct_pairs.proofs.lanes.four.Tie as tie
 
