@@ -46,7 +46,7 @@ fn sums_by_tables(
     fill_sums(pairs, inputs, spectrum, sums)
 }
 
-// Tables no larger than the shortest frame needs: clearing the others' takes as long as its sums.
+// Tables no larger than the shortest frame needs: clearing the longest's takes half as long as its sums.
 fn short_sums(spectrum: &[f32], sums: &mut [f64]) -> usize
     requires { ⌜ (length (now spectrum) ≡ 120) × (length (now sums) ≡ length (now spectrum)) ⌝ }
     ensures { λ r. ⌜ (now (sums .exit) ≡ values (pairSums (length (now (spectrum .entry))) (now (spectrum .entry))))
