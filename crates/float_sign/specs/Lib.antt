@@ -1,4 +1,2 @@
--- Turning a float's sign, through products, sums and the step to f32.
-pub mod Rounding
-pub mod PlusZero
-pub mod Sign
+-- A float with its sign turned.
+pub mod Turned

@@ -10,7 +10,8 @@ use lib.ListN.{getD}
 use lib.Ieee.{Float, nan, binary64, ofBits, neg, mul, fits}
 use lib.Ieee.Fits.{mul-fits}
 use Rattle.loops.specs.Sum.{sum-same}
-use Rattle.float_sign.specs.Sign.{turned, mul-neg, sum-turned}
+use Rattle.float_sign.specs.Turned.{turned}
+use Rattle.float_sign.proofs.Sign.{mul-neg, sum-turned}
 use Rattle.cosine_circle.specs.Circle.{cosAt}
 use Rattle.cosine_circle.proofs.Sizes.{Size, whole}
 use Rattle.cosine_pairs.proofs.Turns.{cos-half, cos-even}

@@ -11,7 +11,8 @@ use lib.Ieee.{Float, nan, binary32, binary64, ofBits, neg, add, sub, mul, eq, fi
 use borrow.Author.Tests.{ltb-true, ltb-false}
 use Rattle.loops.specs.Front.{tab, tab-same, getD-tab}
 use Rattle.float_narrow.specs.Narrow.{narrow}
-use Rattle.float_sign.specs.Sign.{turned, turned-zero, turned-other, mul-neg, narrow-neg}
+use Rattle.float_sign.specs.Turned.{turned}
+use Rattle.float_sign.proofs.Sign.{turned-zero, turned-other, mul-neg, narrow-neg}
 use Rattle.cosine_circle.specs.Circle.{isFrameSize}
 use Rattle.cosine_circle.proofs.Sizes.{Size, sized, even}
 use Rattle.mdct.specs.Imdct.{imdctSum, halfOf, imdctAt, imdct}

@@ -7,7 +7,7 @@ use lib.ListN.{length, getD}
 use lib.Ieee.{Float, nan}
 use Rattle.loops.specs.Front.{tab}
 use Rattle.loops.specs.Reply.{Reply, replyIf}
-use Rattle.float_sign.specs.Sign.{turned}
+use Rattle.float_sign.specs.Turned.{turned}
 use Rattle.mdct.specs.Imdct.{halfOf, imdctTakes}
 use Rattle.mdct_work.specs.Work.{total, allSums, pairSums, values}
 

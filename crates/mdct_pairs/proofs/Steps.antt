@@ -8,7 +8,7 @@ use native.Mathlib.Nat.{mul-comm, mul-assoc, mul-add, div-add-mod', mod-add-mod,
 use lib.ListN.{getD}
 use lib.Ieee.{Float, nan, binary64, mul, neg}
 use borrow.Author.Tests.{eq-eqb, ne-eqb}
-use Rattle.float_sign.specs.Sign.{mul-both}
+use Rattle.float_sign.proofs.Sign.{mul-both}
 use Rattle.cosine_circle.specs.Circle.{cosAt}
 use Rattle.cosine_circle.proofs.Sizes.{Size, whole}
 use Rattle.mdct.specs.Imdct.{angle, imdctTerm}

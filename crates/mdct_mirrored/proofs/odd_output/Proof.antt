@@ -1,6 +1,6 @@
 -- `mdct_mirrored::odd_output` meets its contract: the sum before the middle, or the mirrored one with its sign turned.
 use borrow.Author.Needs.{needs}
-use Rattle.float_sign.specs.Sign.{turned}
+use Rattle.float_sign.specs.Turned.{turned}
 use Rattle.mdct.specs.Imdct.{halfOf}
 use Rattle.mdct_mirrored.specs.Mirrored.{oddSum}
 use Rattle.mdct_mirrored.proofs.Halves.{odd-before, odd-past}

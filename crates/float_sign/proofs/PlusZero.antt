@@ -15,7 +15,7 @@ use lib.Ieee.Digits.{Equals, odd-val, size-lt, size-reaches}
 use lib.Ieee.Fits.{round-is, two, up-pos, down-pos}
 use lib.Ieee.Nearest.{nearest-ge, closest}
 use lib.Ieee.Scale.{round-same}
-use Rattle.float_sign.specs.Rounding.{round-not, round-value, round-zero, fits-fine}
+use Rattle.float_sign.proofs.Rounding.{round-not, round-value, round-zero, fits-fine}
 
 -- x, and +0 for either zero
 unfoldable pub plusZero : Float → Float

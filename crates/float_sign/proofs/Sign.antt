@@ -11,12 +11,9 @@ use lib.Ieee.Fits.{neg-fits, add-fits}
 use Rattle.loops.specs.Fold.{foldTo}
 use Rattle.loops.specs.Sum.{sumTo}
 use Rattle.float_narrow.specs.Narrow.{narrow}
-use Rattle.float_sign.specs.Rounding.{round-not}
-use Rattle.float_sign.specs.PlusZero.{plusZero, plusZero-zero, plusZero-neg-zero, plusZero-twice, plusZero-fits, plusZero-add, add-plus, add-to-zero, add-neg}
-
--- 0 - x: the sign turned, and +0 for a zero
-unfoldable pub turned : Float → Float
-turned x = sub binary64 (ofBits binary64 0) x
+use Rattle.float_sign.specs.Turned.{turned}
+use Rattle.float_sign.proofs.Rounding.{round-not}
+use Rattle.float_sign.proofs.PlusZero.{plusZero, plusZero-zero, plusZero-neg-zero, plusZero-twice, plusZero-fits, plusZero-add, add-plus, add-to-zero, add-neg}
 
 -- ---- products
 
