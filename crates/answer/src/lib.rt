@@ -1,4 +1,7 @@
 // The answer to one record.
+
+#![tactic(auto)]
+
 ghost use Rattle.std.specs.Prelude.{◌≡◌, cond, ◌≤◌, length, eqb};
 ghost use Rattle.history.specs.History.{whole};
 ghost use Rattle.loss.specs.Loss.{outcome_of, in_buffer};

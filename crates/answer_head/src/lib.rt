@@ -1,4 +1,7 @@
 // The head of an answer: number, kind, sample count and samples; and the answer to what is left past the last whole record.
+
+#![tactic(auto)]
+
 ghost use Rattle.std.specs.Prelude.{◌≡◌};
 ghost use Rattle.answer_head.specs.Head.{headed, head_written, answer_tail};
 

@@ -1,1 +1,3 @@
 // Theorems only: what the program writes for a whole input.
+
+#![tactic(auto)]

@@ -1,4 +1,7 @@
 // The gain of a band, from the f32 sum of its energy and its mean.
+
+#![tactic(auto)]
+
 ghost use Rattle.std.specs.Prelude.{◌≡◌, ◌≤◌, false, T};
 ghost use Rattle.std.specs.Float.{fin, binary32, binary64};
 ghost use Rattle.std.specs.Float.Ieee.{minus, fits, of_int, add};

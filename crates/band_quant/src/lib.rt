@@ -1,4 +1,7 @@
 // How a band is brought to unit energy.
+
+#![tactic(auto)]
+
 ghost use Rattle.std.specs.Prelude.{◌≡◌};
 ghost use Rattle.band_quant.specs.Renormalise.{energy64, renormalise_vector};
 

@@ -1,4 +1,7 @@
 // Loops over sample buffers that several steps share.
+
+#![tactic(auto)]
+
 ghost use Rattle.std.specs.Prelude.{◌≡◌, map, length, replicate};
 ghost use Rattle.buffers.specs.Buffers.{times, energy};
 

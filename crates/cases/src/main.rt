@@ -1,6 +1,9 @@
 // Answers cases by their op's number: an op word, then that op's words, and out its answer's words.
 // Each module holds the ops of one hundred. The program stops at the end of the input and at an op
 // that it does not know; what a cut case lacks counts as 0.
+
+#![tactic(auto)]
+
 mod bands;
 mod calls;
 mod filters;

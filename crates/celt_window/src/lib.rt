@@ -1,4 +1,7 @@
 // The 120 values of the rising half of the window, W(n) = sin(pi/2 sin(pi/2 (n + 1/2) / 120)^2), printed from the Rust.
+
+#![tactic(auto)]
+
 ghost use Rattle.std.specs.Prelude.{◌≡◌};
 ghost use Rattle.celt_window.specs.Window.{window, low_overlap_window};
 

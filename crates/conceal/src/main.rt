@@ -1,5 +1,8 @@
 // The concealment program: records from standard input, and for each its number, kind, sample count, samples and new record.
 // What goes wrong it says in one line on standard error.
+
+#![tactic(auto)]
+
 mod streams;
 
 // Writes, and says so where the output takes no more.

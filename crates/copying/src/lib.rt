@@ -1,4 +1,7 @@
 // Samples copied from one buffer to another.
+
+#![tactic(auto)]
+
 ghost use Rattle.std.specs.Prelude.{◌≡◌, cond, ltb};
 ghost use Rattle.copying.specs.Copy.{copied};
 

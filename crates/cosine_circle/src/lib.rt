@@ -1,4 +1,7 @@
 // The circle of cosines that a frame size reads, from a table.
+
+#![tactic(auto)]
+
 ghost use Rattle.std.specs.Prelude.{◌≡◌, ◌≤◌};
 ghost use Rattle.cosine_table.specs.Cosines.{cosines};
 ghost use Rattle.cosine_circle.specs.Circle.{cos_at, is_frame_size, circle_of};

@@ -1,4 +1,7 @@
 // The circle of cosines in pairs, as the sums by pairs read it: each cosine beside the one a quarter of the circle on.
+
+#![tactic(auto)]
+
 ghost use Rattle.std.specs.Prelude.{◌≡◌, true, ◌++◌, ℕ, ◌+◌, ◌*◌, ◌%◌, ◌≤◌, ◌<◌, length, take};
 ghost use Rattle.loops.specs.Front.{front, tab};
 ghost use Rattle.loops.specs.Reply.{reply};

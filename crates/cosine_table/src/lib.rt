@@ -1,4 +1,7 @@
 // The cosines of one quadrant: the f64 nearest to cos(j pi / 3840), for j from 0 to 1920.
+
+#![tactic(auto)]
+
 ghost use Rattle.std.specs.Prelude.{◌≡◌};
 ghost use Rattle.cosine_table.specs.Cosines.{cosines};
 

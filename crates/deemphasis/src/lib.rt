@@ -1,4 +1,7 @@
 // The steps of de-emphasis, and what a call answers. Nothing here knows whether the frame was lost.
+
+#![tactic(auto)]
+
 ghost use Rattle.std.specs.Prelude.{◌≡◌};
 ghost use Rattle.deemphasis.specs.Deemphasis.{next_memory, pcm_value, has_room};
 

@@ -1,4 +1,7 @@
 // De-emphasis of one channel's samples.
+
+#![tactic(auto)]
+
 ghost use Rattle.std.specs.Prelude.{◌≡◌, [], ◌∷◌, ◌/◌, length};
 ghost use Rattle.loops.specs.Front.{front, tab};
 ghost use Rattle.loops.specs.Reply.{reply};

@@ -1,4 +1,7 @@
 // One lost frame on a caller's own memory: what a decoder in another language calls.
+
+#![tactic(auto)]
+
 ghost use Rattle.std.specs.Prelude.{◌≡◌, cond, eqb};
 ghost use Rattle.state_words.specs.Words.{state_words};
 ghost use Rattle.direct.specs.Direct.{called, loss_in};

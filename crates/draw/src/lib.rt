@@ -1,4 +1,7 @@
 // What is drawn for a lost frame's noise.
+
+#![tactic(auto)]
+
 ghost use Rattle.std.specs.Prelude.{◌≡◌, length};
 ghost use Rattle.draw.specs.Draw.{draw, draws};
 ghost use Rattle.draw.specs.Noise.{noise_band};

@@ -1,4 +1,7 @@
 // The energy guard: a synthesis that explodes is zeroed, one that merely grew is scaled back.
+
+#![tactic(auto)]
+
 ghost use Rattle.std.specs.Prelude.{◌≡◌};
 ghost use Rattle.buffers.specs.Buffers.{zero32, energy};
 ghost use Rattle.energy_guard.specs.Guard.{muted, guarded};

@@ -1,4 +1,7 @@
 // The excitation of the newest 1,024 samples, and its last pitch cycle repeated.
+
+#![tactic(auto)]
+
 ghost use Rattle.std.specs.Prelude.{◌≡◌, length};
 ghost use Rattle.loops.specs.Reply.{reply, reply_if};
 ghost use Rattle.buffers.specs.Buffers.{zero32};

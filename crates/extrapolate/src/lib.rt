@@ -1,4 +1,7 @@
 // The newest 1,024 samples continued by their last pitch cycle: faded, filtered and guarded.
+
+#![tactic(auto)]
+
 ghost use Rattle.std.specs.Prelude.{◌≡◌, ◌≤◌, ◌<◌, length};
 ghost use Rattle.loops.specs.Reply.{reply, reply_if};
 ghost use Rattle.history.specs.History.{half};

@@ -1,4 +1,7 @@
 // The end of a call, whichever path it went: de-emphasis, and the state after it.
+
+#![tactic(auto)]
+
 ghost use Rattle.std.specs.Prelude.{◌≡◌, length};
 ghost use Rattle.state.specs.Refusal.{refusal};
 ghost use Rattle.finish.specs.Finish.{finish, outcome_of, in_buffer, finished};

@@ -1,4 +1,7 @@
 // Rust's `f32::min` and `f32::max`.
+
+#![tactic(auto)]
+
 ghost use Rattle.std.specs.Prelude.{◌≡◌, cond};
 ghost use Rattle.std.specs.Float.Ieee.{is_nan};
 ghost use Rattle.float_extremes.specs.Extremes.{min_of, max_of};

@@ -1,4 +1,7 @@
 // An f64 to the nearest f32, in the order of IEEE 754-2019, clause 4.3.1 (round_ties_to_even): what stands in quotes is the clause's.
+
+#![tactic(auto)]
+
 ghost use Rattle.std.specs.Prelude.{◌≡◌, not, ◌+◌, ◌*◌, ◌/◌, ◌%◌, ◌<◌, ◌≤◌, ◌^◌, T};
 ghost use Rattle.std.specs.Float.{binary32, binary64};
 ghost use Rattle.std.specs.Float.Ieee.{is_nan, of_bits, to_bits};

@@ -1,4 +1,7 @@
 // The f32 square root.
+
+#![tactic(auto)]
+
 ghost use Rattle.std.specs.Prelude.{◌≡◌, ◌+◌, ◌*◌, ◌/◌, ◌%◌, ◌<◌, ◌≤◌, ◌^◌};
 ghost use Rattle.std.specs.Float.{binary32};
 ghost use Rattle.float_root.specs.Root.{sqrt_of};

@@ -1,1 +1,3 @@
 // Theorems only: nothing of the forward comb filter shows.
+
+#![tactic(auto)]

@@ -1,4 +1,7 @@
 // De-emphasis of a history's newest frame.
+
+#![tactic(auto)]
+
 ghost use Rattle.std.specs.Prelude.{◌≡◌, ◌≤◌, length};
 ghost use Rattle.loops.specs.Reply.{reply, reply_if};
 ghost use Rattle.history.specs.History.{whole};

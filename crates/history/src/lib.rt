@@ -1,6 +1,8 @@
 // The layout of a decoder's history: of each channel 2,048 samples, oldest first, and then 120 of overlap.
 // Names and laws are in specs/ and proofs/.
 
+#![tactic(auto)]
+
 // The samples of a channel that a loss may change: its newest 1,024.
 pub const HALF: usize = 1024;
 

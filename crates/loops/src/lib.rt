@@ -1,1 +1,3 @@
 // What counting loops compute, as definitions and laws that every other crate's proofs cite: see specs/.
+
+#![tactic(auto)]

@@ -1,2 +1,5 @@
 // The inverse transform.
+
+#![tactic(auto)]
+
 pub mod imdct;

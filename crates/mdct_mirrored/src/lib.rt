@@ -1,4 +1,7 @@
 // The inverse transform by half of its sums.
+
+#![tactic(auto)]
+
 ghost use Rattle.std.specs.Prelude.{◌≡◌, ◌*◌, ◌%◌, ◌<◌, length, get_or};
 ghost use Rattle.std.specs.Float.{nan};
 ghost use Rattle.loops.specs.Reply.{reply};

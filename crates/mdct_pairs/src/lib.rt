@@ -1,4 +1,7 @@
 // The sums of the inverse transform by pairs: outputs t and n + t read the circle of cosines a quarter apart.
+
+#![tactic(auto)]
+
 ghost use Rattle.std.specs.Prelude.{◌≡◌, true, ◌*◌, length};
 ghost use Rattle.loops.specs.Reply.{reply};
 ghost use Rattle.cosine_circle.specs.Circle.{is_frame_size};

@@ -1,4 +1,7 @@
 // A noise block: the spectrum of a channel's noise through the inverse transform and the window.
+
+#![tactic(auto)]
+
 ghost use Rattle.std.specs.Prelude.{◌≡◌, ◌^◌, ◌≤◌, length};
 ghost use Rattle.loops.specs.Reply.{reply, reply_if};
 ghost use Rattle.noise_block.specs.Block.{drawn_block, noise_block};

@@ -1,4 +1,7 @@
 // A noise block over a channel's newest samples.
+
+#![tactic(auto)]
+
 ghost use Rattle.std.specs.Prelude.{◌≡◌, ◌++◌, ◌-◌, length, drop};
 ghost use Rattle.loops.specs.Reply.{reply, reply_if};
 ghost use Rattle.history.specs.History.{overlap};

@@ -1,4 +1,7 @@
 // A noise loss: a noise block over each used channel's newest samples.
+
+#![tactic(auto)]
+
 ghost use Rattle.std.specs.Prelude.{◌≡◌, ◌+◌, ◌≤◌, length};
 ghost use Rattle.loops.specs.Part.{put};
 ghost use Rattle.loops.specs.Reply.{reply, reply_if};

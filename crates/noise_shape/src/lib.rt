@@ -1,4 +1,7 @@
 // Noise at unit energy in every band from start to the last.
+
+#![tactic(auto)]
+
 ghost use Rattle.std.specs.Prelude.{◌≡◌, ◌*◌, ◌≤◌, length};
 ghost use Rattle.loops.specs.Reply.{reply, reply_if};
 ghost use Rattle.draw.specs.Draw.{draws};

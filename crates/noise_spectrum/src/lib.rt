@@ -1,4 +1,7 @@
 // The spectrum of a noise block: noise at unit energy in each band, times the band's gain, up to a bound.
+
+#![tactic(auto)]
+
 ghost use Rattle.std.specs.Prelude.{◌≡◌, ◌*◌, ◌≤◌, length};
 ghost use Rattle.custom_mode.specs.Mode.{short_block, bands, max_bands, last_edge};
 ghost use Rattle.loops.specs.Fold.{fold_range};

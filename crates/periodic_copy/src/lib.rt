@@ -1,4 +1,7 @@
 // The last pitch cycle of the excitation, repeated.
+
+#![tactic(auto)]
+
 ghost use Rattle.std.specs.Prelude.{◌≡◌, ◌≤◌, ◌<◌, length};
 ghost use Rattle.loops.specs.Reply.{reply, reply_if};
 ghost use Rattle.buffers.specs.Buffers.{zero32};

@@ -1,4 +1,7 @@
 // A pitch loss on a whole history: the newest samples continued by a frame, which is rolled in, folded into the overlap and pre-filtered.
+
+#![tactic(auto)]
+
 ghost use Rattle.std.specs.Prelude.{◌≡◌, length};
 ghost use Rattle.loops.specs.Reply.{reply, reply_if};
 ghost use Rattle.history.specs.History.{tails, with_tails};

@@ -1,4 +1,7 @@
 // The predictors of the used channels, which a first pitch loss fits to a whole history.
+
+#![tactic(auto)]
+
 ghost use Rattle.std.specs.Prelude.{◌≡◌, eqb, length};
 ghost use Rattle.loops.specs.Reply.{reply, reply_if};
 ghost use Rattle.history.specs.History.{whole, tails};

@@ -1,2 +1,5 @@
 // The autocorrelation of packet-loss concealment.
+
+#![tactic(auto)]
+
 pub mod autocorr;

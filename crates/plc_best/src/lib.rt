@@ -1,4 +1,7 @@
 // The two-best tracker over a sweep of correlations (`find_best_pitch`).
+
+#![tactic(auto)]
+
 ghost use Rattle.std.specs.Prelude.{◌≡◌, ◌+◌, ◌≤◌, length};
 ghost use Rattle.plc_best.specs.Best.{ranked, considered, find_best_pitch, best_pitches};
 

@@ -1,4 +1,7 @@
 // 2:1 downsampling ahead of the lag search (`pitch_downsample`): one channel, and two summed.
+
+#![tactic(auto)]
+
 ghost use Rattle.std.specs.Prelude.{◌≡◌, ◌<◌, length};
 ghost use Rattle.loops.specs.Reply.{reply, reply_if};
 ghost use Rattle.plc_downsample.specs.Downsample.{smoothed_at, smoothed, smoothed_pair};

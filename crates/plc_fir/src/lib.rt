@@ -1,4 +1,7 @@
 // The all-zero filter.
+
+#![tactic(auto)]
+
 ghost use Rattle.std.specs.Prelude.{◌≡◌, ◌+◌, ◌-◌, ◌≤◌, ◌<◌, length};
 ghost use Rattle.loops.specs.Front.{tab};
 ghost use Rattle.loops.specs.Reply.{reply, reply_if};

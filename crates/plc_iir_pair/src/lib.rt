@@ -1,4 +1,7 @@
 // The all-pole filter of order 24 for two channels in one loop.
+
+#![tactic(auto)]
+
 ghost use Rattle.std.specs.Prelude.{◌≡◌, ◌+◌, ◌-◌, ◌≤◌, ◌<◌, length};
 ghost use Rattle.loops.specs.Reply.{reply, reply_if};
 ghost use Rattle.plc_pad.specs.Pad.{taps_taken};

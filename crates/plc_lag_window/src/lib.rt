@@ -1,4 +1,7 @@
 // Noise floor and lag windowing of correlations, ahead of a predictor.
+
+#![tactic(auto)]
+
 ghost use Rattle.std.specs.Prelude.{◌≡◌, ◌≤◌, leb, length};
 ghost use Rattle.loops.specs.Reply.{reply, reply_if};
 ghost use Rattle.plc_lag_window.specs.LagWindow.{lag_value, lag_window};

@@ -1,4 +1,7 @@
 // The linear predictor.
+
+#![tactic(auto)]
+
 ghost use Rattle.std.specs.Prelude.{◌≡◌, ◌+◌, eqb, length};
 ghost use Rattle.loops.specs.Reply.{reply, reply_if};
 ghost use Rattle.plc_lpc.specs.Lpc.{celt_lpc};

@@ -1,4 +1,7 @@
 // A filter's memory ahead of its samples in one buffer, so that both are read by one index and nothing is shifted.
+
+#![tactic(auto)]
+
 ghost use Rattle.std.specs.Prelude.{◌≡◌, ◌-◌, ◌<◌, length};
 ghost use Rattle.loops.specs.Reply.{reply, reply_if};
 ghost use Rattle.plc_pad.specs.Pad.{remembered, pad_takes};

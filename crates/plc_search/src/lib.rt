@@ -1,4 +1,7 @@
 // The coarse-to-fine lag search (`pitch_search`) over 1,024 samples at half rate.
+
+#![tactic(auto)]
+
 ghost use Rattle.std.specs.Prelude.{◌≡◌, ◌+◌, ◌*◌, ◌-◌, ◌≤◌, ◌<◌, length};
 ghost use Rattle.loops.specs.Front.{tab};
 ghost use Rattle.plc_search.specs.Search.{every_second, fine_at, coarse_best, interpolated, refined, pitch_search};

@@ -1,4 +1,7 @@
 // The whitening of downsampled samples, by a damped predictor of order 4.
+
+#![tactic(auto)]
+
 ghost use Rattle.std.specs.Prelude.{◌≡◌, eqb, length};
 ghost use Rattle.loops.specs.Reply.{reply, reply_if};
 ghost use Rattle.plc_whiten.specs.Whiten.{damped, whitener, whiten_lp};

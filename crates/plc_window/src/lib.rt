@@ -1,4 +1,7 @@
 // A window on both ends of 1,024 samples.
+
+#![tactic(auto)]
+
 ghost use Rattle.std.specs.Prelude.{◌≡◌, ◌-◌, ◌≤◌, length};
 ghost use Rattle.plc_window.specs.Window.{windowed_ends};
 

@@ -1,4 +1,7 @@
 // The post-filter's setting: its limits, and the factors of its taps.
+
+#![tactic(auto)]
+
 ghost use Rattle.std.specs.Prelude.{◌≡◌};
 ghost use Rattle.post_filter.specs.Limits.{filter_fits};
 ghost use Rattle.post_filter.specs.Gains.{comb_gains};

@@ -1,4 +1,7 @@
 // The fractional powers of two: 2 ^ (i / 256), to the nearest f64.
+
+#![tactic(auto)]
+
 ghost use Rattle.std.specs.Prelude.{◌≡◌, ◌%◌};
 ghost use Rattle.powers.specs.Powers.{power};
 

@@ -1,4 +1,7 @@
 // The pre-filter of the overlap behind the newest 1,024 samples: it undoes ahead what the post-filter will do there.
+
+#![tactic(auto)]
+
 ghost use Rattle.std.specs.Prelude.{◌≡◌, true, ◌+◌, length};
 ghost use Rattle.loops.specs.Reply.{reply, reply_if};
 ghost use Rattle.post_filter.specs.Limits.{filter_fits};

@@ -1,4 +1,7 @@
 // The bytes of a state and its history: the tent's record, written.
+
+#![tactic(auto)]
+
 ghost use Rattle.std.specs.Prelude.{◌≡◌};
 ghost use Rattle.loops.specs.Reply.{reply, reply_if};
 ghost use Rattle.record.specs.Record.{record_of, writable};

@@ -1,4 +1,7 @@
 // A state's words, written.
+
+#![tactic(auto)]
+
 ghost use Rattle.std.specs.Prelude.{◌≡◌, ◌++◌, ◌≤◌, length};
 ghost use Rattle.loops.specs.Part.{put};
 ghost use Rattle.state_words.specs.Words.{state_length, head_words, float_words, state_words};

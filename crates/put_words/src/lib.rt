@@ -1,4 +1,7 @@
 // 32-bit words and floats written as bytes, the lowest first.
+
+#![tactic(auto)]
+
 ghost use Rattle.std.specs.Prelude.{◌≡◌, ◌+◌, ◌*◌, ◌≤◌, length, set};
 ghost use Rattle.loops.specs.Part.{put};
 ghost use Rattle.loops.specs.Reply.{reply, reply_if};

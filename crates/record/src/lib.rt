@@ -1,4 +1,7 @@
 // The tent's record: a state and its history as 4,497 little-endian words. Read here; `put_record` writes it.
+
+#![tactic(auto)]
+
 ghost use Rattle.std.specs.Prelude.{◌≡◌};
 ghost use Rattle.loops.specs.Front.{tab};
 ghost use Rattle.words.specs.Bytes.{word_at};

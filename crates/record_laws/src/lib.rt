@@ -1,1 +1,3 @@
 // A record read back: theorems alone, in specs/.
+
+#![tactic(auto)]

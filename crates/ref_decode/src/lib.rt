@@ -1,4 +1,7 @@
 // One lost frame, from a carried state and its lent history to PCM: `CeltRefDecoder::decode_lost`.
+
+#![tactic(auto)]
+
 mod noise;
 mod pitch;
 

@@ -1,4 +1,7 @@
 // A frame rolled into a channel's newest samples.
+
+#![tactic(auto)]
+
 ghost use Rattle.std.specs.Prelude.{◌≡◌, ◌≤◌, leb, length};
 ghost use Rattle.loops.specs.Reply.{reply, reply_if};
 ghost use Rattle.roll.specs.Roll.{moved_back, rolled};

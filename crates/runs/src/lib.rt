@@ -1,1 +1,3 @@
 // Runs of calls: definitions and theorems only.
+
+#![tactic(auto)]

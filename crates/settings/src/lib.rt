@@ -1,4 +1,7 @@
 // The settings of a stream: which are refused, and what follows from them; the numbers that a call answers with.
+
+#![tactic(auto)]
+
 ghost use Rattle.std.specs.Prelude.{◌≡◌};
 ghost use Rattle.settings.specs.Number.{number_of};
 

@@ -1,4 +1,7 @@
 // What follows from the settings of a stream: the block factor, the frame, the samples of an answer.
+
+#![tactic(auto)]
+
 ghost use Rattle.std.specs.Prelude.{◌≡◌, ◌*◌};
 ghost use Rattle.settings.specs.Settings.{block_factor, needed};
 

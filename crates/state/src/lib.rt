@@ -1,4 +1,7 @@
 // What a decoder carries from frame to frame, which states and buffers are refused, by which path a loss goes, and what a call answers.
+
+#![tactic(auto)]
+
 pub mod checks;
 
 ghost use Rattle.std.specs.Prelude.{◌≡◌};

@@ -1,4 +1,7 @@
 // A state as 161 words of 32 bits in memory: a caller's struct, read. `put_state_words` writes it; the record has the same words as bytes.
+
+#![tactic(auto)]
+
 ghost use Rattle.std.specs.Prelude.{◌≡◌, ◌+◌, ◌≤◌, length};
 ghost use Rattle.state_words.specs.Words.{state_length, floats_by, settings_by, filter_by, word_in, state_in};
 

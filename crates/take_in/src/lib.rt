@@ -1,4 +1,7 @@
 // A frame taken in at the newest end of one channel.
+
+#![tactic(auto)]
+
 ghost use Rattle.std.specs.Prelude.{◌≡◌, true, ◌+◌, ◌≤◌, length};
 ghost use Rattle.loops.specs.Reply.{reply, reply_if};
 ghost use Rattle.history.specs.History.{half, overlap, tail_of, tail_list};

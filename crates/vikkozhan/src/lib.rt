@@ -1,4 +1,7 @@
 // The functions that programs in other languages link: `include/vikkozhan.h` declares them.
+
+#![tactic(auto)]
+
 ghost use Rattle.std.specs.Prelude.{◌≡◌};
 ghost use Rattle.direct.specs.Direct.{called, loss_in};
 ghost use Rattle.answer_head.specs.Head.{headed};

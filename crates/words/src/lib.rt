@@ -1,4 +1,7 @@
 // 32-bit words and floats read from bytes, the lowest first.
+
+#![tactic(auto)]
+
 ghost use Rattle.std.specs.Prelude.{◌≡◌, ◌+◌, ◌*◌, length, leb, cond};
 ghost use Rattle.words.specs.Bytes.{word_at, floats_at};
 
