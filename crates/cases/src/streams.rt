@@ -5,7 +5,7 @@ ghost use Rattle.std.specs.Prelude.{◌≤◌};
 use float_bits::words::{f32_from_word, f32_to_word};
 
 // `whole` is false where the input ended first.
-#[derive(Drop)]
+#[derive(Clone, Copy)]
 pub(crate) struct Word {
     pub value: u32,
     pub whole: bool,

@@ -12,7 +12,7 @@ use history::{HALF, OVERLAP};
 use post_filter::{Filter, comb_gains, filter_fits};
 
 // What each tap is multiplied by.
-#[derive(Drop)]
+#[derive(Clone, Copy)]
 struct Taps {
     g0: f32,
     g1: f32,

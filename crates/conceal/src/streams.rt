@@ -2,7 +2,7 @@
 use libc::{STDIN_FILENO, STDOUT_FILENO};
 
 // How many bytes came, and whether a failure ended them.
-#[derive(Drop)]
+#[derive(Clone, Copy)]
 pub(crate) struct Filled {
     pub bytes: usize,
     pub failed: bool,

@@ -2,7 +2,7 @@
 ghost use Rattle.std.specs.Prelude.{◌≡◌};
 ghost use Rattle.custom_mode.specs.Rate.{resampling_factor};
 
-#[derive(Drop)]
+#[derive(Clone, Copy)]
 pub enum Factor {
     By(usize),
     Nothing,

@@ -10,7 +10,7 @@ use custom_mode::standard::preemph;
 const PER_SCALE: f32 = 0.000030517578125;
 
 // Whether the lengths fitted, and the memories of both channels.
-#[derive(Drop)]
+#[derive(Clone, Copy)]
 pub struct Deemphasised {
     pub taken: bool,
     pub memories: [f32; 2],

@@ -7,7 +7,7 @@ ghost use Rattle.buffers.specs.Buffers.{zero32, energy};
 ghost use Rattle.energy_guard.specs.Guard.{muted, guarded};
 
 // Whether the samples were zeroed.
-#[derive(Drop)]
+#[derive(Clone, Copy)]
 pub struct Guarded {
     pub muted: bool,
 }

@@ -14,7 +14,7 @@ use periodic_copy::periodic_copy;
 mod decay;
 
 // Whether a cycle was repeated, and the energy of the history that it stands for.
-#[derive(Drop)]
+#[derive(Clone, Copy)]
 pub struct Repeated {
     pub taken: bool,
     pub energy: f32,

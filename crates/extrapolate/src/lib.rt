@@ -19,7 +19,7 @@ pub const ORDER: usize = plc_pad::ORDER;
 // The longest frame and twice the overlap.
 pub const LONGEST: usize = 1200;
 
-#[derive(Drop)]
+#[derive(Clone, Copy)]
 pub struct Extrapolated {
     pub taken: bool,
 }

@@ -13,7 +13,7 @@ use state::checks::first_refusal;
 use state::{Answer, State};
 
 // What a path made of a state.
-#[derive(Drop)]
+#[derive(Clone, Copy)]
 pub struct Made {
     pub kind: u32,
     pub seed: u32,

@@ -27,7 +27,7 @@ fn isqrt(m: u64) -> u64
 }
 
 // m * 4 ^ k
-#[derive(Drop)]
+#[derive(Clone, Copy)]
 struct Scaled {
     m: u64,
     k: u64,

@@ -15,7 +15,7 @@ use mdct_pairs::pair_sums;
 const LONG: usize = 960;
 
 // Whether the lengths fitted, and how many products were made.
-#[derive(Drop)]
+#[derive(Clone, Copy)]
 pub struct Transformed {
     pub taken: bool,
     pub products: usize,

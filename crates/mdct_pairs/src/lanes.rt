@@ -9,7 +9,7 @@ ghost use Rattle.cosine_pairs.specs.Pairs.{pairs_of};
 ghost use Rattle.mdct_pairs.specs.Inputs.{inputs_of};
 
 // Four pairs of sums, and how many products were made for them.
-#[derive(Drop)]
+#[derive(Clone, Copy)]
 pub(crate) struct Sums {
     pub(crate) sums: [f64; 8],
     pub(crate) products: usize,

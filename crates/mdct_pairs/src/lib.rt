@@ -23,7 +23,7 @@ const SHORT: usize = 120;
 const LONG: usize = 960;
 
 // Whether the lengths fitted, and how many products were made.
-#[derive(Drop)]
+#[derive(Clone, Copy)]
 pub struct Summed {
     pub taken: bool,
     pub products: usize,

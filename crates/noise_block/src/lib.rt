@@ -14,7 +14,7 @@ mod block;
 const LM_MOST: usize = 3;
 
 // Whether settings and lengths fitted, and the seed.
-#[derive(Drop)]
+#[derive(Clone, Copy)]
 pub struct Drawn {
     pub taken: bool,
     pub seed: u32,

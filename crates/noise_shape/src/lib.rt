@@ -16,7 +16,7 @@ use draw::noise_fill;
 pub const FACTOR_MOST: usize = 8;
 
 // Whether settings and lengths fitted, and the seed.
-#[derive(Drop)]
+#[derive(Clone, Copy)]
 pub struct Shaped {
     pub taken: bool,
     pub seed: u32,

@@ -11,7 +11,7 @@ ghost use Rattle.periodic_copy.specs.Copy.{stepped, decayed, periodic_copy, copi
 use history::HALF;
 
 // Whether a cycle was copied, and the energy of the history that it stands for.
-#[derive(Drop)]
+#[derive(Clone, Copy)]
 pub struct Copied {
     pub taken: bool,
     pub energy: f32,

@@ -14,7 +14,7 @@ use plc_search::pitch_search;
 // The longest lag.
 const LAG_MOST: usize = 720;
 
-#[derive(Drop)]
+#[derive(Clone, Copy)]
 pub struct Found {
     pub taken: bool,
     pub lag: u32,

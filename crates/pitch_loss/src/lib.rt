@@ -17,7 +17,7 @@ use state::checks::{LAG_LEAST, LAG_MOST};
 
 mod channels;
 
-#[derive(Drop)]
+#[derive(Clone, Copy)]
 pub struct Concealed {
     pub taken: bool,
 }

@@ -13,7 +13,7 @@ use pitch_fit::{ORDER, pitch_fit};
 // Both channels' coefficients.
 const BOTH: usize = 2 * ORDER;
 
-#[derive(Drop)]
+#[derive(Clone, Copy)]
 pub struct Fitted {
     pub taken: bool,
     pub predictor: [f32; 48],

@@ -6,7 +6,7 @@ ghost use Rattle.std.specs.Prelude.{◌≡◌, ◌+◌, ◌≤◌, length};
 ghost use Rattle.plc_best.specs.Best.{ranked, considered, find_best_pitch, best_pitches};
 
 // The two best places so far, with the squared correlation and the energy of each.
-#[derive(Drop)]
+#[derive(Clone, Copy)]
 pub struct Best {
     pub num0: f32,
     pub den0: f32,
@@ -17,7 +17,7 @@ pub struct Best {
 }
 
 // The two best places, or none where a slice is too short for the counts.
-#[derive(Drop)]
+#[derive(Clone, Copy)]
 pub enum Pitches {
     Pair(usize, usize),
     Refused,

@@ -16,7 +16,7 @@ const SAMPLES: usize = 2048;
 const HALF: usize = 1024;
 
 // Whether the samples were downsampled.
-#[derive(Drop)]
+#[derive(Clone, Copy)]
 pub struct Downsampled {
     pub taken: bool,
 }

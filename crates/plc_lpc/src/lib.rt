@@ -10,7 +10,7 @@ ghost use Rattle.plc_lpc.specs.Lpc.{celt_lpc};
 const SMALL: f32 = 0.001;
 
 // Whether a predictor was made.
-#[derive(Drop)]
+#[derive(Clone, Copy)]
 pub struct Solved {
     pub taken: bool,
 }

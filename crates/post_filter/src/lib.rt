@@ -7,7 +7,7 @@ ghost use Rattle.post_filter.specs.Limits.{filter_fits};
 ghost use Rattle.post_filter.specs.Gains.{comb_gains};
 
 // A setting: the gain, the pitch period and which row of tap factors.
-#[derive(Drop)]
+#[derive(Clone, Copy)]
 pub struct Filter {
     pub gain: f32,
     pub period: u32,

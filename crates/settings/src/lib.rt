@@ -8,7 +8,7 @@ ghost use Rattle.settings.specs.Number.{number_of};
 pub mod checks;
 
 // The settings of a stream; the frame is 120 * 2 ^ lm samples long.
-#[derive(Drop)]
+#[derive(Clone, Copy)]
 pub struct Settings {
     pub lm: u32,
     pub channels: u32,
@@ -18,7 +18,7 @@ pub struct Settings {
 }
 
 // Acceptance, or why a call was refused.
-#[derive(Drop)]
+#[derive(Clone, Copy)]
 pub enum Number {
     Accepted,
     BadLm,

@@ -11,7 +11,7 @@ use post_filter::Filter;
 use settings::{Number, Settings};
 
 // All that a decoder carries but for the history, which is lent beside it. Of each array channel 0's values come first.
-#[derive(Drop)]
+#[derive(Clone, Copy)]
 pub struct State {
     pub settings: Settings,
     pub loss_count: u32,
@@ -25,7 +25,7 @@ pub struct State {
 }
 
 // What a call did. The kind is 1 for the pitch path, 2 for the noise path and 0 for a refusal; `samples` is the PCM written.
-#[derive(Drop)]
+#[derive(Clone, Copy)]
 pub struct Answer {
     pub number: Number,
     pub kind: u32,

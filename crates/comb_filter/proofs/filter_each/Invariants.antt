@@ -1,0 +1,15 @@
+use mathlib.Core.Path.{◌≡◌, ap, ◌∙◌}
+use Prim.Native.Nat.{ℕ, ◌+◌, ◌≤◌, ◌-◌}
+use lib.ListN.{length, length-set}
+use borrow.Author.Rules.{rules}
+use lib.Ieee.{Float, nan}
+use Rattle.loops.specs.Front.{front, tab, tab-none, tab-more, tab-all}
+use Rattle.history.specs.History.{half, overlap}
+use Rattle.comb_filter.specs.Comb.{comb_at, comb_filter_to}
+use Rattle.comb_filter.proofs.filter_each.Given as goal
+
+abbrev pub invariant-loop-i : goal.invariant-loop-i
+invariant-loop-i l = (l.i ≤ overlap) × (length l.dst ≡ overlap) × (l.dst ≡ front (tab (λ (k : ℕ). comb_at l.x (half + k) l.period l.g.g0 l.g.g1 l.g.g2) l.i) l.initial.dst l.i)
+
+abbrev pub decreases-loop-i : goal.decreases-loop-i
+decreases-loop-i l = overlap - l.i

@@ -1,0 +1,25 @@
+use mathlib.Core.Path.{◌≡◌, ap, ◌∙◌}
+use mathlib.Core.List.{[], ◌∷◌}
+use Prim.Native.Nat.{ℕ, ◌+◌, ◌≤◌, ◌-◌, ◌*◌, ◌/◌}
+use native.Mathlib.Omega.{arith}
+use lib.ListN.{length, length-set}
+use borrow.Author.Rules.{rules}
+use lib.Ieee.{Float, nan}
+use Rattle.loops.specs.Front.{front, tab, tab-none, tab-more}
+use Rattle.deemphasis.specs.Deemphasis.{memory_to, value_at}
+use Rattle.deemphasis.proofs.Laws.{next-in, next-is, all-samples, memory_none, memory_more, value-mono}
+use Rattle.deemphasis_mono.proofs.filter_mono.Given as goal
+
+abbrev pub invariant-loop-j : goal.invariant-loop-j
+invariant-loop-j l = (l.j ≤ l.next) × (l.next ≤ length l.v) × (l.mem ≡ memory_to l.v l.memory l.j)
+
+abbrev pub decreases-loop-j : goal.decreases-loop-j
+decreases-loop-j l = l.next - l.j
+
+abbrev pub invariant-loop-q : goal.invariant-loop-q
+invariant-loop-q l =
+    (l.q ≤ l.count) × (l.j ≡ l.q * l.downsample) × (length l.pcm ≡ length l.initial.pcm) × (l.mem ≡ memory_to l.v l.memory l.j)
+    × (l.pcm ≡ front (tab (value_at l.downsample (l.v ∷ []) (l.memory ∷ [])) l.q) l.initial.pcm l.q)
+
+abbrev pub decreases-loop-q : goal.decreases-loop-q
+decreases-loop-q l = l.count - l.q

@@ -1,0 +1,13 @@
+use Prim.Native.Nat.{◌*◌, ◌%◌, ◌^◌, ◌≤◌, ◌<◌}
+use mathlib.Core.Path.{◌≡◌, ◌∙◌}
+use native.Mathlib.Nat.{mod-lt}
+use lib.Dec.{lit<}
+use native.Mathlib.Omega.{arith}
+use Rattle.float_root.proofs.Roots.{start, step, some_left, first_small}
+use Rattle.float_root.proofs.scale.Given as goal
+
+abbrev pub invariant-loop-m : goal.invariant-loop-m
+invariant-loop-m l = (l.m * (2 ^ l.k * 2 ^ l.k) ≡ l.q * 2 ^ l.h) × (l.m < 2 ^ 48) × (l.k ≤ 201)
+
+abbrev pub decreases-loop-m : goal.decreases-loop-m
+decreases-loop-m l = l.k

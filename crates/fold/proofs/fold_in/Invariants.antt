@@ -1,0 +1,15 @@
+use mathlib.Core.Path.{◌≡◌, ap, ◌∙◌}
+use Prim.Native.Nat.{◌≤◌, ◌-◌}
+use lib.ListN.{length, length-set}
+use lib.Ieee.{nan}
+use borrow.Author.Rules.{rules}
+use Rattle.loops.specs.Front.{front, tab, tab-none, tab-more, tab-all}
+use Rattle.history.specs.History.{overlap}
+use Rattle.fold.specs.Fold.{fold_at, folded}
+use Rattle.fold.proofs.fold_in.Given as goal
+
+abbrev pub invariant-loop-k : goal.invariant-loop-k
+invariant-loop-k l = (l.k ≤ overlap) × (length l.over ≡ overlap) × (l.over ≡ front (tab (fold_at l.w l.x) l.k) l.initial.over l.k)
+
+abbrev pub decreases-loop-k : goal.decreases-loop-k
+decreases-loop-k l = overlap - l.k

@@ -1,0 +1,21 @@
+use mathlib.Core.Path.{◌≡◌, ap, ◌∙◌, sym}
+use mathlib.Core.List.{List}
+use Prim.Native.Nat.{ℕ, ◌≤◌, ◌<◌, ◌-◌}
+use native.Mathlib.Omega.{arith}
+use lib.ListN.{length, get_or, length-set}
+use borrow.Author.Rules.{rules}
+use lib.Ieee.{Float, nan, binary32, add, mul}
+use Rattle.loops.specs.Front.{front, tab, tab-none, tab-more, tab-all}
+use Rattle.periodic_copy.specs.Copy.{stepped-lt, stepped, position_at, decay_at, periodic_copy, copied_energy, position-none, position-more, decay_none, decay_more}
+use Rattle.buffers.specs.Buffers.{zero32, square_at}
+use Rattle.history.specs.History.{half}
+use Rattle.loops.specs.Sum.{sum_to, sum-none, sum_more}
+use Rattle.periodic_copy.proofs.copy_each.Given as goal
+
+abbrev pub invariant-loop-i : goal.invariant-loop-i
+invariant-loop-i l =
+    (l.i ≤ l.n) × (length l.e ≡ l.n) × (l.pos < half) × (l.pos ≡ position_at l.lag l.i) × (l.d ≡ decay_at l.lag l.decay l.i)
+    × (l.e ≡ front (tab (copy_at l.exc l.lag l.decay) l.i) l.initial.e l.i) × (l.s1 ≡ sum_to binary32 (λ (k : ℕ). square_at l.new (position_at l.lag k)) zero32 l.i)
+
+abbrev pub decreases-loop-i : goal.decreases-loop-i
+decreases-loop-i l = l.n - l.i

@@ -1,0 +1,14 @@
+use mathlib.Core.Path.{sym}
+use borrow.Author.Rules.{rules}
+use Rattle.loops.specs.Pick.{pick_true, pick-false}
+use borrow.Author.Tests.{eq-eqb, ne_eqb}
+use Rattle.periodic_copy.specs.Copy.{decayed}
+use Rattle.periodic_copy.proofs.next_decay.Goals as goal
+
+pub returns-then-p-eq-HALF : goal.returns-then-p-eq-HALF
+unfolding decayed
+returns-then-p-eq-HALF c = sym (pick_true _ _ _ (eq-eqb _ _ c.if-p-eq-HALF.true))
+
+pub returns-else-p-eq-HALF : goal.returns-else-p-eq-HALF
+unfolding decayed
+returns-else-p-eq-HALF c = sym (pick-false _ _ _ (ne_eqb _ _ c.if-p-eq-HALF.false))

@@ -1,0 +1,14 @@
+use mathlib.Core.Path.{◌≡◌}
+use Prim.Native.Nat.{ℕ, ◌+◌, ◌≤◌, ◌-◌}
+use lib.ListN.{length, get_or, length-set}
+use borrow.Author.Rules.{rules}
+use lib.Ieee.{Float, nan}
+use Rattle.loops.specs.Front.{front, tab, length-tab, tab-none, tab-more}
+use Rattle.roll.proofs.Laws.{front-later, moved-is}
+use Rattle.roll.proofs.move_back.Given as goal
+
+abbrev pub invariant-loop-i : goal.invariant-loop-i
+invariant-loop-i l = (l.i ≤ l.kept) × (length l.new ≡ length l.initial.new) × (l.new ≡ front (tab (λ (k : ℕ). get_or l.initial.new (l.n + k) nan) l.i) l.initial.new l.i)
+
+abbrev pub decreases-loop-i : goal.decreases-loop-i
+decreases-loop-i l = l.kept - l.i
