@@ -4,9 +4,6 @@ use borrow.Author.Rules.{rules}
 use Rattle.deemphasis.proofs.Laws.{room, mono-done, mono-refused}
 use Rattle.deemphasis_mono.proofs.deemphasis_mono.Goals as goal
 
-two : (c : goal.Start) → length c.args.t2 ≡ 2
-two c = search rules
-
 pub filter_mono-requires : goal.filter_mono-requires
 filter_mono-requires c =
     let a = c.args in
@@ -15,10 +12,10 @@ filter_mono-requires c =
 pub returns-then-fits : goal.returns-then-fits
 returns-then-fits c =
     let a = c.args in
-    mono-done a.downsample a.v.now a.t2 a.pcm.now (two c.before.before.before.before.before.before.before.before) (sym c.has_room-fits.ensures ∙ c.if-fits.true)
-    c.filter_mono.result c.filter_mono.new.memory.1.1.0 c.filter_mono.ensures.0 c.filter_mono.ensures.1
+    mono-done a.downsample a.v.now a.memories a.pcm.now (let here : length c.args.memories ≡ 2 = search rules in here) (sym c.has_room-fits.ensures ∙ c.if-fits.true)
+    c.filter_mono.result c.filter_mono.new.pcm c.filter_mono.ensures.0 c.filter_mono.ensures.1
 
 pub returns : goal.returns
 returns c =
     let a = c.args in
-    mono-refused a.downsample a.v.now a.t2 a.pcm.now (two c.before.before.before.before) (sym c.has_room-fits.ensures ∙ c.if-fits.false)
+    mono-refused a.downsample a.v.now a.memories a.pcm.now (let here : length c.args.memories ≡ 2 = search rules in here) (sym c.has_room-fits.ensures ∙ c.if-fits.false)

@@ -10,13 +10,6 @@ use Rattle.deemphasis.specs.Deemphasis.{memory_to, value_at}
 use Rattle.deemphasis.proofs.Laws.{next-in, next-is, all-samples, memory_none, memory_more, value-mono}
 use Rattle.deemphasis_mono.proofs.filter_mono.Goals as goal
 
--- the samples of the value of this turn lie within v
-inside : (c : goal.In-loop-q) → c.loop-q.j + c.args.downsample ≤ length c.args.v.now
-inside c =
-    let h = c.loop-q in
-    let a = c.args in
-    omega (arith, next-in h.q a.downsample (length a.v.now) c.loop-q-test.true)
-
 pub loop-q-init : goal.loop-q-init
 loop-q-init c =
     let a = c.args in
@@ -24,19 +17,27 @@ loop-q-init c =
 
 pub offset_bounds-v-j : goal.offset_bounds-v-j
 offset_bounds-v-j c =
-    let e = inside c in search rules
+    let e = (let here : c.loop-q.j + c.args.downsample ≤ length c.args.v.now = let h = c.loop-q in
+    let a = c.args in
+    omega (arith, next-in h.q a.downsample (length a.v.now) c.loop-q-test.true) in here) in search rules
 
 pub bounds-v-j : goal.bounds-v-j
 bounds-v-j c =
-    let e = inside c.before in search rules
+    let e = (let here : c.loop-q.j + c.args.downsample ≤ length c.args.v.now = let h = c.loop-q in
+    let a = c.args in
+    omega (arith, next-in h.q a.downsample (length a.v.now) c.loop-q-test.true) in here) in search rules
 
 pub overflow_add-next : goal.overflow_add-next
 overflow_add-next c =
-    let e = inside c.before.before in search rules
+    let e = (let here : c.loop-q.j + c.args.downsample ≤ length c.args.v.now = let h = c.loop-q in
+    let a = c.args in
+    omega (arith, next-in h.q a.downsample (length a.v.now) c.loop-q-test.true) in here) in search rules
 
 pub loop-j-init : goal.loop-j-init
 loop-j-init c =
-    let e = inside c.before.before in
+    let e = (let here : c.loop-q.j + c.args.downsample ≤ length c.args.v.now = let h = c.loop-q in
+    let a = c.args in
+    omega (arith, next-in h.q a.downsample (length a.v.now) c.loop-q-test.true) in here) in
     (search rules, search rules, search rules)
 
 pub loop-j-preserved : goal.loop-j-preserved

@@ -10,14 +10,6 @@ use Rattle.deemphasis.specs.Deemphasis.{memory_to, value_at}
 use Rattle.deemphasis.proofs.Laws.{next-in, next-is, all-samples, memory_none, memory_more, value-first, value-second}
 use Rattle.deemphasis_stereo.proofs.filter_stereo.Goals as goal
 
--- the samples of the values of this turn lie within v
-inside : (c : goal.In-loop-q)
-    → c.loop-q.j + c.args.downsample ≤ length c.args.v.now
-inside c =
-    let h = c.loop-q in
-    let a = c.args in
-    omega (arith, next-in h.q a.downsample (length a.v.now) c.loop-q-test.true)
-
 pub loop-q-init : goal.loop-q-init
 loop-q-init c =
     let a = c.args in (
@@ -31,37 +23,49 @@ loop-q-init c =
 
 pub offset_bounds-v-j : goal.offset_bounds-v-j
 offset_bounds-v-j c =
-    let e = inside c in search rules
+    let e = (let here : c.loop-q.j + c.args.downsample ≤ length c.args.v.now = let h = c.loop-q in
+    let a = c.args in
+    omega (arith, next-in h.q a.downsample (length a.v.now) c.loop-q-test.true) in here) in search rules
 
 pub bounds-v-j : goal.bounds-v-j
 bounds-v-j c =
-    let e = inside c.before in search rules
+    let e = (let here : c.loop-q.j + c.args.downsample ≤ length c.args.v.now = let h = c.loop-q in
+    let a = c.args in
+    omega (arith, next-in h.q a.downsample (length a.v.now) c.loop-q-test.true) in here) in search rules
 
 pub offset_bounds-w-j : goal.offset_bounds-w-j
-offset_bounds-w-j c = mul-pcm-value c.before.before
+offset_bounds-w-j c = (let e = (let here : c.loop-q.j + c.args.downsample ≤ length c.args.v.now = let h = c.loop-q in
+    let a = c.args in
+    omega (arith, next-in h.q a.downsample (length a.v.now) c.loop-q-test.true) in here) in search rules)
 
 pub bounds-w-j : goal.bounds-w-j
 bounds-w-j c =
-    let e = inside c.before.before.before in search rules
+    let e = (let here : c.loop-q.j + c.args.downsample ≤ length c.args.v.now = let h = c.loop-q in
+    let a = c.args in
+    omega (arith, next-in h.q a.downsample (length a.v.now) c.loop-q-test.true) in here) in search rules
 
 pub bounds-pcm-q-in-loop-q : goal.bounds-pcm-q-in-loop-q
 bounds-pcm-q-in-loop-q c = simp length-set (search rules)
 
 pub overflow_add-next : goal.overflow_add-next
 overflow_add-next c =
-    let e = inside c.before.before.before.before in search rules
+    let e = (let here : c.loop-q.j + c.args.downsample ≤ length c.args.v.now = let h = c.loop-q in
+    let a = c.args in
+    omega (arith, next-in h.q a.downsample (length a.v.now) c.loop-q-test.true) in here) in search rules
 
 pub loop-j-init : goal.loop-j-init
 loop-j-init c =
-    let e = inside c.before.before.before.before in
+    let e = (let here : c.loop-q.j + c.args.downsample ≤ length c.args.v.now = let h = c.loop-q in
+    let a = c.args in
+    omega (arith, next-in h.q a.downsample (length a.v.now) c.loop-q-test.true) in here) in
     (search rules, search rules, search rules, search rules)
 
 pub offset_bounds-w-j-in-loop-j : goal.offset_bounds-w-j-in-loop-j
-offset_bounds-w-j-in-loop-j c = mul-next-memory c.before.before
+offset_bounds-w-j-in-loop-j c = (search rules)
 
 pub bounds-w-j-in-loop-j : goal.bounds-w-j-in-loop-j
 bounds-w-j-in-loop-j c =
-    subst (λ k. c.loop-j.j < k) (sym c.requires.0) (shared-slice-read-next-memory c.before.before)
+    subst (λ k. c.loop-j.j < k) (sym c.requires.0) (search rules)
 
 -- one sample less is left
 fewer : (n j : ℕ) → j < n → n - (j + 1) < n - j

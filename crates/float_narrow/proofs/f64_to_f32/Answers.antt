@@ -1,5 +1,6 @@
 use mathlib.Core.Path.{◌≡◌, sym, ap, ◌∙◌, subst}
 use mathlib.Core.Bool.{Bool, not}
+use Prim.Native.Nat.{ℕ}
 use lib.Dec.{T}
 use lib.Ieee.{Float, nan, binary32, binary64, is_nan, fits, of_bits, to_bits, div}
 use lib.Ieee.Bits.{of_bits-to_bits, nan_bits_is}
@@ -16,11 +17,10 @@ nan-narrows : (x : Float) → x ≡ nan → div binary32 (of_bits binary32 0) (o
 unfolding narrow div of_bits
 nan-narrows x e = sym (ap narrow e)
 
-result : (c : goal.After-narrow_bits) → of_bits binary32 c.narrow_bits.result ≡ narrow c.args.x
-result c =
-    let x = c.args.x in
-    let fit = c.type_inv.x in
-    ap (of_bits binary32) (c.narrow_bits.ensures ∙ ap (λ (v : Float). to_bits binary32 (clause v)) (of_bits-to_bits binary64 x fit) ∙ ap (to_bits binary32) (clause-narrow x fit))
+-- the bits of `clause` are those of `narrow`
+result : (x : Float) (r : ℕ) → T (fits binary64 x) → r ≡ to_bits binary32 (clause (of_bits binary64 (to_bits binary64 x))) → of_bits binary32 r ≡ narrow x
+result x r f e =
+    ap (of_bits binary32) (e ∙ ap (λ (v : Float). to_bits binary32 (clause v)) (of_bits-to_bits binary64 x f) ∙ ap (to_bits binary32) (clause-narrow x f))
     ∙ of_bits-to_bits binary32 (narrow x) (narrow-fits x)
 
 pub returns-then-x : goal.returns-then-x
@@ -30,13 +30,15 @@ pub float_to_bits-x : goal.float_to_bits-x
 float_to_bits-x c = real c.args.x c.if-x.false
 
 pub narrow_bits-requires : goal.narrow_bits-requires
-narrow_bits-requires c = subst (λ (v : Float). T (not (is_nan v))) (sym (of_bits-to_bits binary64 c.args.x c.type_inv.x)) (real c.args.x c.if-x.false)
+narrow_bits-requires c =
+    subst (λ (v : Float). T (not (is_nan v))) (sym (of_bits-to_bits binary64 c.args.x (subst T (sym c.well_formed.0.1) tt))) (real c.args.x c.if-x.false)
 
 pub float_from_bits-result : goal.float_from_bits-result
 float_from_bits-result c =
     let x = c.args.x in
     subst (λ (b : Bool). T (not b)) (sym (nan_bits_is binary32 c.narrow_bits.result))
-    (subst (λ (v : Float). T (not (is_nan v))) (sym (result c)) (narrow-real x (real x c.if-x.false)))
+    (subst (λ (v : Float). T (not (is_nan v))) (sym (result x c.narrow_bits.result (subst T (sym c.well_formed.0.1) tt) c.narrow_bits.ensures))
+    (narrow-real x (real x c.if-x.false)))
 
 pub returns : goal.returns
-returns c = result c
+returns c = result c.args.x c.narrow_bits.result (subst T (sym c.well_formed.0.1) tt) c.narrow_bits.ensures

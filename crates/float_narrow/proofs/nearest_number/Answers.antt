@@ -20,7 +20,7 @@ pub nearest-requires : goal.nearest-requires
 nearest-requires c =
     let e = c.args.e in
     let lo : 872 ≤ e = omega arith in
-    (unit-pos e lo, (unit-le e lo, omega arith))
+    record { u_nonzero = unit-pos e lo; u_bound = unit-le e lo; q_bound = omega arith }
 
 pub returns-then-e-lt897 : goal.returns-then-e-lt897
 returns-then-e-lt897 c =
@@ -31,14 +31,10 @@ returns-then-e-lt897 c =
     let r = c.nearest.ensures ∙ ap (delivered (2 ^ 52 + t)) (unit-is e lo) ∙ delivered-is (2 ^ 52 + t) (2 ^ (926 - e)) (pow_pos (926 - e)) in
     subst (λ (r : ℕ). Magnitude e t r) (sym r) (mag-sub e t lo hi c.requires.t_bound_2)
 
--- the number found has 24 digits at most
-top : (c : goal.After-nearest-2) → c.nearest-2.result ≡ closest (2 ^ 52 + c.args.t) (2 ^ 29)
-top c = c.nearest-2.ensures ∙ delivered-is (2 ^ 52 + c.args.t) (2 ^ 29) (pow_pos 29)
-
 pub overflow_add-result : goal.overflow_add-result
 overflow_add-result c =
     let t = c.args.t in
-    omega (arith, top-hi t c.requires.t_bound_2, top c)
+    omega (arith, top-hi t c.requires.t_bound_2, (let here : c.nearest-2.result ≡ closest (2 ^ 52 + c.args.t) (2 ^ 29) = c.nearest-2.ensures ∙ delivered-is (2 ^ 52 + c.args.t) (2 ^ 29) (pow_pos 29) in here))
 
 pub returns : goal.returns
 returns c =
@@ -46,4 +42,4 @@ returns c =
     let t = c.args.t in
     let lo : 897 ≤ e = omega arith in
     let p = c.requires in
-    subst (λ (r : ℕ). Magnitude e t ((e - 897) * 2 ^ 23 + r)) (sym (top c)) (mag-fin e t lo p.1 p.0)
+    subst (λ (r : ℕ). Magnitude e t ((e - 897) * 2 ^ 23 + r)) (sym (let here : c.nearest-2.result ≡ closest (2 ^ 52 + c.args.t) (2 ^ 29) = c.nearest-2.ensures ∙ delivered-is (2 ^ 52 + c.args.t) (2 ^ 29) (pow_pos 29) in here)) (mag-fin e t lo p.t_bound_2 p.t_bound)

@@ -10,11 +10,8 @@ use Rattle.periodic_copy.specs.Copy.{stepped-lt, stepped, position_at, decay_at,
 use Rattle.buffers.specs.Buffers.{zero32, square_at}
 use Rattle.history.specs.History.{half}
 use Rattle.loops.specs.Sum.{sum_to, sum-none, sum_more}
+use Rattle.periodic_copy.proofs.copy_each.Invariants.{copy_at}
 use Rattle.periodic_copy.proofs.copy_each.Goals as goal
-
--- sample i of the copy
-abbrev copy_at : List Float → ℕ → Float → ℕ → Float
-copy_at exc lag d i = mul binary32 (decay_at lag d i) (get_or exc (position_at lag i) nan)
 
 pub loop-i-init : goal.loop-i-init
 loop-i-init c =

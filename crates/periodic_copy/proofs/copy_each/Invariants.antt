@@ -12,6 +12,10 @@ use Rattle.history.specs.History.{half}
 use Rattle.loops.specs.Sum.{sum_to, sum-none, sum_more}
 use Rattle.periodic_copy.proofs.copy_each.Given as goal
 
+-- sample i of the copy
+abbrev pub copy_at : List Float → ℕ → Float → ℕ → Float
+copy_at exc lag d i = mul binary32 (decay_at lag d i) (get_or exc (position_at lag i) nan)
+
 abbrev pub invariant-loop-i : goal.invariant-loop-i
 invariant-loop-i l =
     (l.i ≤ l.n) × (length l.e ≡ l.n) × (l.pos < half) × (l.pos ≡ position_at l.lag l.i) × (l.d ≡ decay_at l.lag l.decay l.i)

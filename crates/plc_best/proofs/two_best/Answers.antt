@@ -25,5 +25,5 @@ unfolding find_best_pitch
 returns c =
     let l = c.loop-i in
     let a = c.args in
-    let e : l.i ≡ a.«max-pitch» = search rules in
+    let e : l.i ≡ a.max_pitch = search rules in
     ap (λ z. z.best) (sym l.invariant.1) ∙ ap (λ z. (sweep_to a.xcorr.now a.y.now a.len z).best) e

@@ -9,7 +9,7 @@ pub returns : goal.returns
 returns c = let a = c.args in
     let pad = c.remember in
     let e = c.copy.ensures in (
-      remembers_put a.mem.now a.buf.now pad.new.0 c.copy.new.dst 1024 (search rules) e
+      remembers_put a.mem.now a.buf.now pad.new.pad c.copy.new.dst 1024 (search rules) e
           (remembers_all a.mem.now 1048 zero32 pad.ensures (search rules) (search rules)) (search rules),
-      holds-put a.mem.now a.buf.now pad.new.0 c.copy.new.dst 1024 (search rules) e (search rules),
+      holds-put a.mem.now a.buf.now pad.new.pad c.copy.new.dst 1024 (search rules) e (search rules),
     )

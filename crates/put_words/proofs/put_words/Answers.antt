@@ -16,7 +16,7 @@ pub loop-i-preserved : goal.loop-i-preserved
 loop-i-preserved c =
     let h = c.loop-i in
     let p = c.put_word in
-    (search rules, omega (arith, p.auto.0), search rules, bytes-more _ _ _ _ _ h.invariant.3 (omega arith) refl _ p.ensures)
+    (search rules, omega (arith, p.auto.b), search rules, bytes-more _ _ _ _ _ h.invariant.3 (omega arith) refl _ p.ensures)
 
 pub shape_of-b : goal.shape_of-b
 shape_of-b c = omega arith

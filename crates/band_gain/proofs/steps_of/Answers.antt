@@ -1,0 +1,57 @@
+use Rattle.std.proofs.Common.{◌≡◌, ◌+◌, ◌-◌, ◌^◌, ◌≤◌, true, false, sym, ◌∙◌, subst, arith, le→leb, rules}
+use lib.Dec.{T}
+use lib.Ieee.{Float, binary32, fits, in_float}
+use Rattle.band_gain.specs.Gain.{steps, GainRange}
+use Rattle.band_gain.proofs.Floor.{Fine, product, fine}
+use Rattle.band_gain.proofs.Limits.{asked-above, found-above, asked-below, small-below, found_below}
+use Rattle.band_gain.proofs.steps_of.Goals as goal
+
+-- what is widened lies in the range of the steps
+fine-at : (x w : Float) → w ≡ x → GainRange x → T (fits binary32 x) → Fine (product w) (steps x)
+fine-at x w e g t = subst (λ z. Fine (product z) (steps x)) (sym e) (fine x t g)
+
+pub truncating_f64_to_u64-requires : goal.truncating_f64_to_u64-requires
+truncating_f64_to_u64-requires c = let r = asked-above _ _ (fine-at c.args.x _ c.f32_to_f64-w.ensures c.requires.gain_range c.requires.t) c.if-w.true in record { lower_bound = r.0; upper_bound = r.1 }
+
+pub overflow_add-result : goal.overflow_add-result
+overflow_add-result c =
+    omega (
+      arith,
+      (found-above _ _ _ (fine-at c.args.x _ c.f32_to_f64-w.ensures c.requires.gain_range c.requires.t) c.if-w.true c.truncating_f64_to_u64.ensures).1,
+    )
+
+pub returns-then-w : goal.returns-then-w
+returns-then-w c = found-above _ _ _ (fine-at c.args.x _ c.f32_to_f64-w.ensures c.requires.gain_range c.requires.t) c.if-w.true c.truncating_f64_to_u64.ensures
+
+pub truncating_f64_to_u64-t-requires : goal.truncating_f64_to_u64-t-requires
+truncating_f64_to_u64-t-requires c = let r = asked-below _ _ (fine-at c.args.x _ c.f32_to_f64-w.ensures c.requires.gain_range c.requires.t) c.if-w.false in record { lower_bound = r.0; upper_bound = r.1 }
+
+pub int_to_float-t : goal.int_to_float-t
+unfolding in_float
+int_to_float-t c = le→leb c.truncating_f64_to_u64-t.result (2 ^ 53) (omega (
+  arith,
+  (small-below _ _ _ (fine-at c.args.x _ c.f32_to_f64-w.ensures c.requires.gain_range c.requires.t) c.if-w.false c.truncating_f64_to_u64-t.ensures),
+))
+
+pub overflow_sub-result : goal.overflow_sub-result
+overflow_sub-result c = (small-below _ _ _ (fine-at c.args.x _ c.f32_to_f64-w.ensures c.requires.gain_range c.requires.t) c.if-w.false c.truncating_f64_to_u64-t.ensures)
+
+pub overflow_sub-result-else-t-v : goal.overflow_sub-result-else-t-v
+overflow_sub-result-else-t-v c = omega (
+  arith,
+  (small-below _ _ _ (fine-at c.args.x _ c.f32_to_f64-w.ensures c.requires.gain_range c.requires.t) c.if-w.false c.truncating_f64_to_u64-t.ensures),
+)
+
+pub returns-then-t-v : goal.returns-then-t-v
+returns-then-t-v c =
+    let z : 38_399 - c.truncating_f64_to_u64-t.result ≡ 38_400 - (c.truncating_f64_to_u64-t.result + 1) = omega arith in (
+      z ∙ found_below true _ _ _ (fine-at c.args.x _ c.f32_to_f64-w.ensures c.requires.gain_range c.requires.t) c.if-w.false c.truncating_f64_to_u64-t.ensures c.if-t-v.true,
+      omega arith,
+    )
+
+pub returns-else-t-v : goal.returns-else-t-v
+returns-else-t-v c =
+    let z : 38_400 - c.truncating_f64_to_u64-t.result ≡ 38_400 - (c.truncating_f64_to_u64-t.result + 0) = omega arith in (
+      z ∙ found_below false _ _ _ (fine-at c.args.x _ c.f32_to_f64-w.ensures c.requires.gain_range c.requires.t) c.if-w.false c.truncating_f64_to_u64-t.ensures c.if-t-v.false,
+      omega arith,
+    )

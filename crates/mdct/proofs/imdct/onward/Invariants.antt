@@ -1,0 +1,20 @@
+-- `imdct::onward` meets its contract: the places before j are a step on, the others stand as they were.
+use mathlib.Core.Path.{◌≡◌, ap, ◌∙◌, sym, subst}
+use mathlib.Core.List.{List}
+use Prim.Native.Nat.{ℕ, ◌+◌, ◌%◌, ◌≤◌, ◌<◌, ◌-◌}
+use native.Mathlib.Nat.{le_antisymm}
+use lib.ListN.{length, get_or}
+use lib.Dec.{lit≤}
+use Rattle.loops.specs.Front.{front, tab, tab-none, tab-read, tab-more, tab-all}
+use Rattle.mdct.proofs.Lanes.{bytes_fit, next_fits, next_le, fewer, onward-fits, two-less}
+use Rattle.mdct.proofs.imdct.onward.Given as goal
+
+-- the next place of output j
+abbrev pub moved : List ℕ → ℕ → List ℕ → ℕ → ℕ
+moved step w at j = (get_or at j 0 + get_or step j 0) % w
+
+abbrev pub invariant-loop-j : goal.invariant-loop-j
+invariant-loop-j l = (l.j ≤ 8) × (l.at ≡ front (tab (moved l.step l.w l.initial.at) l.j) l.initial.at l.j)
+
+abbrev pub decreases-loop-j : goal.decreases-loop-j
+decreases-loop-j l = 8 - l.j

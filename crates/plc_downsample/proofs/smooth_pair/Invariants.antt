@@ -1,0 +1,16 @@
+use lib.Ieee.{binary32, add, nan}
+use Rattle.loops.specs.Front.{front, tab, tab-none, tab-more, tab-all}
+use Rattle.plc_downsample.specs.Downsample.{summed_at, smoothed_pair}
+use mathlib.Core.Path.{◌≡◌, refl, ap, ap₂, ◌∙◌}
+use Prim.Native.Nat.{◌≤◌, ◌-◌}
+use lib.ListN.{length, length-set}
+use borrow.Author.Rules.{rules}
+use Rattle.plc_downsample.proofs.smooth_pair.Given as goal
+
+abbrev pub invariant-loop-i : goal.invariant-loop-i
+invariant-loop-i l =
+    (l.i ≤ 1024) × (length l.x_lp ≡ length l.initial.x_lp) × (l.x_lp ≡ front (tab (summed_at l.x0 l.x1) l.i) l.initial.x_lp l.i)
+
+abbrev pub decreases-loop-i : goal.decreases-loop-i
+decreases-loop-i l =
+    1024 - l.i

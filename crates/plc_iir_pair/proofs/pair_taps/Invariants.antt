@@ -1,0 +1,13 @@
+-- After j turns j taps are taken.
+use mathlib.Core.Path.{◌≡◌, ap, ◌∙◌, sym}
+use Prim.Native.Nat.{◌≤◌, ◌-◌}
+use borrow.Author.Rules.{rules}
+use Rattle.loops.specs.Fold.{fold-none, fold_more}
+use Rattle.plc_pad.specs.Pad.{taps_taken}
+use Rattle.plc_iir_pair.proofs.pair_taps.Given as goal
+
+abbrev pub invariant-loop-j : goal.invariant-loop-j
+invariant-loop-j l = (l.j ≤ 24) × (l.y ≡ taps_taken l.den l.pad l.i l.x l.j)
+
+abbrev pub decreases-loop-j : goal.decreases-loop-j
+decreases-loop-j l = 24 - l.j

@@ -1,0 +1,17 @@
+use Rattle.loops.specs.Front.{front, tab, tab-none, tab-more, tab-all}
+use Rattle.plc_search.specs.Search.{every_second}
+use Prim.Native.Nat.{◌*◌}
+use lib.Ieee.{nan}
+use mathlib.Core.Path.{◌≡◌, refl}
+use Prim.Native.Nat.{ℕ, ◌≤◌, ◌-◌}
+use lib.ListN.{length, get_or, length-set}
+use borrow.Author.Rules.{rules}
+use Rattle.plc_search.proofs.every_second.Given as goal
+
+abbrev pub invariant-loop-j : goal.invariant-loop-j
+invariant-loop-j l =
+    (l.j ≤ l.n) × (l.n ≡ length l.initial.out) × (length l.out ≡ length l.initial.out) × (l.out ≡ front (tab (λ (k : ℕ). get_or l.x (2 * k) nan) l.j) l.initial.out l.j)
+
+abbrev pub decreases-loop-j : goal.decreases-loop-j
+decreases-loop-j l =
+    l.n - l.j
