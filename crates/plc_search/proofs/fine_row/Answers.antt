@@ -14,8 +14,7 @@ loop-i-init c =
 
 pub loop-i-preserved : goal.loop-i-preserved
 loop-i-preserved c =
-    let l = c.loop-i in
-    (
+    let l = c.loop-i in (
       search rules,
       simp length-set l.invariant.1,
       tab-more _ nan _ _ _ l.invariant.2 _

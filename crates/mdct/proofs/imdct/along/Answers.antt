@@ -14,12 +14,18 @@ pub loop-j-init : goal.loop-j-init
 loop-j-init c = (search rules, search rules, search rules, tab-none _ _)
 
 pub overflow_mul-r : goal.overflow_mul-r
-overflow_mul-r c = omega (arith, (let here : (c.args.by * c.loop-j.j ≤ 14) × (c.args.first < 8000) = let h : c.loop-j.j ≤ 7 = omega arith in
-    (mul-le-mul c.requires.1 h, c.requires.0) in here))
+overflow_mul-r c = omega (
+  arith,
+  (let here : (c.args.by * c.loop-j.j ≤ 14) × (c.args.first < 8000) = let h : c.loop-j.j ≤ 7 = omega arith in
+      (mul-le-mul c.requires.1 h, c.requires.0) in here),
+)
 
 pub overflow_add-r : goal.overflow_add-r
-overflow_add-r c = omega (arith, (let here : (c.args.by * c.loop-j.j ≤ 14) × (c.args.first < 8000) = let h : c.loop-j.j ≤ 7 = omega arith in
-    (mul-le-mul c.requires.1 h, c.requires.0) in here))
+overflow_add-r c = omega (
+  arith,
+  (let here : (c.args.by * c.loop-j.j ≤ 14) × (c.args.first < 8000) = let h : c.loop-j.j ≤ 7 = omega arith in
+      (mul-le-mul c.requires.1 h, c.requires.0) in here),
+)
 
 pub offset_bounds-r-j : goal.offset_bounds-r-j
 offset_bounds-r-j c = bytes_fit _ c.loop-j-test.true

@@ -65,8 +65,7 @@ loop-k-smaller c = fewer _ _ c.loop-k-test.true
 pub loop-k-preserved : goal.loop-k-preserved
 loop-k-preserved c =
     let z = (let here : Size (length c.args.x.now) = sized _ c.requires.x_value in here) in
-    let n = length c.args.x.now in
-    (
+    let n = length c.args.x.now in (
       next_le _ _ c.loop-k-test.true,
       places-more n c.args.t z c.loop-k.k _ c.loop-k.invariant.1 _ c.along-step.ensures _ c.onward.ensures,
       sums-more n c.args.t z c.loop-k.k _ c.loop-k.invariant.1 _ _ _ _ c.requires.circle

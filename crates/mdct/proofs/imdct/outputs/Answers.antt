@@ -15,31 +15,47 @@ pub loop-t-init : goal.loop-t-init
 loop-t-init c = (search rules, search rules, search rules, tab-none _ _)
 
 pub eight-sums-requires : goal.eight-sums-requires
-eight-sums-requires c = record { circle = c.requires.circle; x_value = c.requires.x_value; t_bound = omega (arith, (let here : (c.loop-t.t + 8 ≤ 2 * length c.args.x.now) × (length c.args.x.now ≤ 960)
-    × (length c.args.out.now ≡ 2 * length c.args.x.now) = let z = sized _ c.requires.x_value in
-    let m = c.requires.out_len in
-    (next_eight _ _ c.loop-t.invariant.1 (eights _ z) (omega arith), at_most _ z, m) in here)) }
+eight-sums-requires c = record {
+  circle = c.requires.circle;
+  x_value = c.requires.x_value;
+  t_bound = omega (
+    arith,
+    (let here : (c.loop-t.t + 8 ≤ 2 * length c.args.x.now) × (length c.args.x.now ≤ 960)
+        × (length c.args.out.now ≡ 2 * length c.args.x.now) = let z = sized _ c.requires.x_value in
+        let m = c.requires.out_len in
+        (next_eight _ _ c.loop-t.invariant.1 (eights _ z) (omega arith), at_most _ z, m) in here),
+  );
+}
 
 pub halves-requires : goal.halves-requires
-halves-requires c = omega (arith, (let here : (c.loop-t.t + 8 ≤ 2 * length c.args.x.now) × (length c.args.x.now ≤ 960)
-    × (length c.args.out.now ≡ 2 * length c.args.x.now) = let z = sized _ c.requires.x_value in
-    let m = c.requires.out_len in
-    (next_eight _ _ c.loop-t.invariant.1 (eights _ z) (omega arith), at_most _ z, m) in here))
+halves-requires c = omega (
+  arith,
+  (let here : (c.loop-t.t + 8 ≤ 2 * length c.args.x.now) × (length c.args.x.now ≤ 960)
+      × (length c.args.out.now ≡ 2 * length c.args.x.now) = let z = sized _ c.requires.x_value in
+      let m = c.requires.out_len in
+      (next_eight _ _ c.loop-t.invariant.1 (eights _ z) (omega arith), at_most _ z, m) in here),
+)
 
 pub overflow_add-t : goal.overflow_add-t
-overflow_add-t c = omega (arith, (let here : (c.loop-t.t + 8 ≤ 2 * length c.args.x.now) × (length c.args.x.now ≤ 960)
-    × (length c.args.out.now ≡ 2 * length c.args.x.now) = let z = sized _ c.requires.x_value in
-    let m = c.requires.out_len in
-    (next_eight _ _ c.loop-t.invariant.1 (eights _ z) (omega arith), at_most _ z, m) in here))
+overflow_add-t c = omega (
+  arith,
+  (let here : (c.loop-t.t + 8 ≤ 2 * length c.args.x.now) × (length c.args.x.now ≤ 960)
+      × (length c.args.out.now ≡ 2 * length c.args.x.now) = let z = sized _ c.requires.x_value in
+      let m = c.requires.out_len in
+      (next_eight _ _ c.loop-t.invariant.1 (eights _ z) (omega arith), at_most _ z, m) in here),
+)
 
 pub loop-t-preserved : goal.loop-t-preserved
 unfolding imdct_at
 loop-t-preserved c =
     let l = c.loop-t in (
-      omega (arith, (let here : (c.loop-t.t + 8 ≤ 2 * length c.args.x.now) × (length c.args.x.now ≤ 960)
-    × (length c.args.out.now ≡ 2 * length c.args.x.now) = let z = sized _ c.requires.x_value in
-    let m = c.requires.out_len in
-    (next_eight _ _ c.loop-t.invariant.1 (eights _ z) (omega arith), at_most _ z, m) in here)),
+      omega (
+        arith,
+        (let here : (c.loop-t.t + 8 ≤ 2 * length c.args.x.now) × (length c.args.x.now ≤ 960)
+            × (length c.args.out.now ≡ 2 * length c.args.x.now) = let z = sized _ c.requires.x_value in
+            let m = c.requires.out_len in
+            (next_eight _ _ c.loop-t.invariant.1 (eights _ z) (omega arith), at_most _ z, m) in here),
+      ),
       search rules,
       c.halves.auto.out ∙ l.invariant.2,
       c.halves.ensures
