@@ -1,0 +1,47 @@
+-- `lanes::add_terms` meets its contract: the sums before e have their term, the others stand as they were.
+use mathlib.Core.Path.{◌≡◌, ap, ◌∙◌, sym}
+use mathlib.Core.List.{List}
+use Prim.Native.Nat.{ℕ, ◌+◌, ◌≤◌, ◌<◌, ◌-◌, ◌*◌, ◌/◌, ◌%◌}
+use native.Mathlib.Omega.{arith}
+use lib.ListN.{length, get_or}
+use borrow.Author.Rules.{rules}
+use Rattle.loops.specs.Front.{front, tab, tab-none, tab-read, tab-more, tab-all}
+use lib.Ieee.{Float, nan, binary64, add, mul}
+use mir.Syntax.{w64}
+use mir.Val.{Fits}
+use Rattle.mdct_pairs.proofs.lanes.add_terms.Invariants.{summed}
+use Rattle.mdct_pairs.proofs.lanes.add_terms.Goals as goal
+
+-- where sum e reads its cosine
+place_in : (c : goal.In-loop-e)
+    → get_or c.args.at.now (c.loop-e.e / 2) 0 + c.loop-e.e % 2 < length c.args.pairs.now
+place_in c = let h : c.loop-e.e / 2 < 4 = omega arith in omega (arith, c.requires.by_index (c.loop-e.e / 2) h)
+
+small : (i m : ℕ) → i < m → m ≤ 11520 → Fits w64 (i * 8)
+small i m h g = record { fits = omega arith }
+
+pub loop-e-init : goal.loop-e-init
+loop-e-init c = (search rules, tab-none _ _)
+
+pub overflow_add-acc-in-loop-e : goal.overflow_add-acc-in-loop-e
+overflow_add-acc-in-loop-e c = record { fits = omega (arith, place_in c.before.before.before.before) }
+
+pub offset_bounds-pairs-at : goal.offset_bounds-pairs-at
+offset_bounds-pairs-at c = small _ _ (place_in c.before.before.before.before) c.requires.acc_len.2
+
+pub bounds-pairs-at : goal.bounds-pairs-at
+bounds-pairs-at c = place_in c.before.before.before.before.before
+
+pub loop-e-preserved : goal.loop-e-preserved
+loop-e-preserved c =
+    let l = c.loop-e in
+    let a = c.args in
+    let term = mul binary64 (get_or a.inputs.now (a.i + l.e % 2) nan) (get_or a.pairs.now (get_or a.at.now (l.e / 2) 0 + l.e % 2) nan) in
+    (search rules, tab-more _ nan _ _ _ l.invariant.1 _ (ap (λ y. add binary64 y term) (tab-read _ nan _ _ _ l.invariant.1 (let here : c.loop-e.e < length c.args.acc.now = omega arith in here))) (let here : c.loop-e.e < length c.args.acc.now = omega arith in here))
+
+pub returns : goal.returns
+returns c =
+    let l = c.loop-e in
+    let p = c.requires.acc_len.0 in
+    let e : l.e ≡ 8 = omega arith in
+    tab-all _ nan _ _ _ l.invariant.1 (p ∙ sym e) ∙ ap (tab _) p

@@ -1,0 +1,36 @@
+-- `lanes::onward` meets its contract: the places before j are a step on, the others stand as they were.
+use mathlib.Core.Path.{◌≡◌, ap, ◌∙◌, sym}
+use mathlib.Core.List.{List}
+use Prim.Native.Nat.{ℕ, ◌+◌, ◌≤◌, ◌<◌, ◌-◌, ◌*◌}
+use native.Mathlib.Omega.{arith}
+use lib.ListN.{length, get_or, length-set}
+use borrow.Author.Rules.{rules}
+use Rattle.loops.specs.Front.{front, tab, tab-none, tab-read, tab-more, tab-all}
+use Rattle.mdct_pairs.proofs.lanes.onward.Invariants.{moved}
+use Rattle.mdct_pairs.proofs.lanes.onward.Goals as goal
+
+module _ (c : tie.In-loop invariant-loop decreases-loop) where
+  room : c.before.loop.j < length c.before.before.args.at.now
+  room = omega arith
+
+  at-is : get_or c.before.loop.at c.before.loop.j 0 ≡ get_or c.before.before.args.at.now c.before.loop.j 0
+  at-is = tab-read _ 0 _ _ _ c.before.loop.invariant.2 room
+
+pub loop-j-init : goal.loop-j-init
+loop-j-init c = (search rules, search rules, tab-none _ _)
+
+pub overflow_add-at-in-loop-j : goal.overflow_add-at-in-loop-j
+overflow_add-at-in-loop-j c = omega (arith, at-is t, c.requires.by_index c.loop-j.j c.loop-j-test.true)
+
+pub loop-j-preserved : goal.loop-j-preserved
+loop-j-preserved c =
+    let l = c.loop-j in
+    let a = c.args in
+    (search rules, simp length-set l.invariant.1, tab-more _ 0 _ _ _ l.invariant.2 _ (ap (λ y. y + (a.step + 4 * l.j)) (at-is t)) (room t))
+
+pub returns : goal.returns
+returns c =
+    let l = c.loop-j in
+    let p = c.requires.at_len.0 in
+    let e : l.j ≡ 4 = omega arith in
+    tab-all _ 0 _ _ _ l.invariant.2 (p ∙ sym e) ∙ ap (tab _) p

@@ -1,0 +1,16 @@
+-- `record::first_words` meets its contract: one word after the other.
+use mathlib.Core.Path.{◌≡◌, ap, ◌∙◌}
+use Prim.Native.Nat.{◌-◌, ◌≤◌}
+use native.Mathlib.Omega.{arith}
+use borrow.Author.Rules.{rules}
+use lib.ListN.{length, length-set}
+use Rattle.loops.specs.Front.{front, tab, tab-none, tab-more, tab-all}
+use Rattle.state_words.specs.Words.{state_length}
+use Rattle.words.specs.Bytes.{word_at}
+use Rattle.record.proofs.first_words.Given as goal
+
+abbrev pub invariant-loop-i : goal.invariant-loop-i
+invariant-loop-i l = (l.i ≤ state_length) × (length l.w ≡ state_length) × (length l.initial.w ≡ state_length) × (l.w ≡ front (tab (word_at l.b) l.i) l.initial.w l.i)
+
+abbrev pub decreases-loop-i : goal.decreases-loop-i
+decreases-loop-i l = state_length - l.i
