@@ -2,3 +2,4 @@
 pub mod Lent
 pub mod PairLanes
 pub mod Steps
+pub mod Two

@@ -42,6 +42,14 @@ pub slice_bounds-band_noise-count : goal.slice_bounds-band_noise-count
 slice_bounds-band_noise-count c =
     let v = ends c.args.m c.loop-i.i _ _ c.band_edge.ensures c.band_edge-in-loop-i.ensures c.loop-i-test.true in search rules
 
+pub slice_bounds-band_noise-start : goal.slice_bounds-band_noise-start
+slice_bounds-band_noise-start c =
+    let v = ends c.args.m c.loop-i.i _ _ c.band_edge.ensures c.band_edge-in-loop-i.ensures c.loop-i-test.true in search rules
+
+pub slice_bounds-band_noise-end : goal.slice_bounds-band_noise-end
+slice_bounds-band_noise-end c =
+    let v = ends c.args.m c.loop-i.i _ _ c.band_edge.ensures c.band_edge-in-loop-i.ensures c.loop-i-test.true in search rules
+
 pub loop-i-preserved : goal.loop-i-preserved
 loop-i-preserved c =
     let n = c.band_noise-s in

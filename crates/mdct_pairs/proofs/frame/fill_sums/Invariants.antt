@@ -15,12 +15,12 @@ use Rattle.mdct_work.proofs.Works.{pair_values, pair-products}
 use Rattle.mdct_pairs.proofs.frame.fill_sums.Given as goal
 
 -- sum j of the frame
-abbrev pub pairSum : ℕ → List Float → ℕ → Float
-pairSum n x j = imdct_sum n x (j / 2 + j % 2 * n)
+abbrev pub pair_sum : ℕ → List Float → ℕ → Float
+pair_sum n x j = imdct_sum n x (j / 2 + j % 2 * n)
 
 abbrev pub invariant-loop-t : goal.invariant-loop-t
 invariant-loop-t l =
-    (l.t ≤ l.m) × (l.t % 8 ≡ 0) × (length l.sums ≡ l.m) × (l.sums ≡ front (tab (pairSum (length l.x) l.x) l.t) l.initial.sums l.t) × (l.products ≡ l.t * length l.x)
+    (l.t ≤ l.m) × (l.t % 8 ≡ 0) × (length l.sums ≡ l.m) × (l.sums ≡ front (tab (pair_sum (length l.x) l.x) l.t) l.initial.sums l.t) × (l.products ≡ l.t * length l.x)
 
 abbrev pub decreases-loop-t : goal.decreases-loop-t
 decreases-loop-t l = l.m - l.t

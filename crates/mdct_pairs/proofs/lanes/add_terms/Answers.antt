@@ -13,9 +13,8 @@ use Rattle.mdct_pairs.proofs.lanes.add_terms.Invariants.{summed}
 use Rattle.mdct_pairs.proofs.lanes.add_terms.Goals as goal
 
 -- where sum e reads its cosine
-place_in : (c : goal.In-loop-e)
-    → get_or c.args.at.now (c.loop-e.e / 2) 0 + c.loop-e.e % 2 < length c.args.pairs.now
-place_in c = let h : c.loop-e.e / 2 < 4 = omega arith in omega (arith, c.requires.by_index (c.loop-e.e / 2) h)
+place_in : (at : List ℕ) (n e : ℕ) → ((j : ℕ) → j < 4 → get_or at j 0 + 2 ≤ n) → e < 8 → get_or at (e / 2) 0 + e % 2 < n
+place_in at n e r l = let h : e / 2 < 4 = omega arith in omega (arith, r (e / 2) h)
 
 small : (i m : ℕ) → i < m → m ≤ 11520 → Fits w64 (i * 8)
 small i m h g = record { fits = omega arith }
@@ -24,20 +23,21 @@ pub loop-e-init : goal.loop-e-init
 loop-e-init c = (search rules, tab-none _ _)
 
 pub overflow_add-acc-in-loop-e : goal.overflow_add-acc-in-loop-e
-overflow_add-acc-in-loop-e c = record { fits = omega (arith, place_in c.before.before.before.before) }
+overflow_add-acc-in-loop-e c = record { fits = omega (arith, place_in _ _ _ c.requires.by_index c.loop-e-test.true) }
 
 pub offset_bounds-pairs-at : goal.offset_bounds-pairs-at
-offset_bounds-pairs-at c = small _ _ (place_in c.before.before.before.before) c.requires.acc_len.2
+offset_bounds-pairs-at c = small _ _ (place_in _ _ _ c.requires.by_index c.loop-e-test.true) c.requires.acc_len.2
 
 pub bounds-pairs-at : goal.bounds-pairs-at
-bounds-pairs-at c = place_in c.before.before.before.before.before
+bounds-pairs-at c = place_in _ _ _ c.requires.by_index c.loop-e-test.true
 
 pub loop-e-preserved : goal.loop-e-preserved
 loop-e-preserved c =
     let l = c.loop-e in
     let a = c.args in
+    let room : l.e < length a.acc.now = omega arith in
     let term = mul binary64 (get_or a.inputs.now (a.i + l.e % 2) nan) (get_or a.pairs.now (get_or a.at.now (l.e / 2) 0 + l.e % 2) nan) in
-    (search rules, tab-more _ nan _ _ _ l.invariant.1 _ (ap (λ y. add binary64 y term) (tab-read _ nan _ _ _ l.invariant.1 (let here : c.loop-e.e < length c.args.acc.now = omega arith in here))) (let here : c.loop-e.e < length c.args.acc.now = omega arith in here))
+    (search rules, tab-more _ nan _ _ _ l.invariant.1 _ (ap (λ y. add binary64 y term) (tab-read _ nan _ _ _ l.invariant.1 room)) room)
 
 pub returns : goal.returns
 returns c =

@@ -1,0 +1,139 @@
+-- A turn of `lanes::four`: with two inputs every lane goes two steps on and is taken back into the circle, and each sum gets two terms more.
+use mathlib.Core.Path.{◌≡◌, refl, ap, ◌∙◌}
+use mathlib.Core.Bool.{true}
+use mathlib.Core.List.{List}
+use Prim.Native.Nat.{ℕ, ◌+◌, ◌≤◌, ◌<◌, ◌*◌, ◌/◌, ◌%◌}
+use native.Mathlib.Omega.{arith}
+use lib.ListN.{length, get_or}
+use lib.Ieee.{Float, nan, binary64, add, mul}
+use Rattle.loops.specs.Front.{tab, length-tab}
+use Rattle.cosine_circle.specs.Circle.{is_frame_size}
+use Rattle.cosine_circle.proofs.Sizes.{Size, sized, at_most}
+use Rattle.cosine_pairs.specs.Pairs.{pairs_of}
+use Rattle.mdct_pairs.specs.Inputs.{inputs_of}
+use Rattle.mdct_pairs.proofs.PairLanes.{places, sums, on-table, before, moved, turned, sums-more}
+use Rattle.mdct_pairs.proofs.PairLanes.{at_count, step_of, first_on, second-on, third-on, first-in, second-in, first_small, second-small, third-small}
+
+-- ---- lengths of what is lent
+
+pub few : (n : ℕ) → is_frame_size n ≡ true → n ≤ 960
+few n f = at_most _ (sized _ f)
+
+inputs-count : (xs inputs : List Float) → inputs ≡ inputs_of xs → length inputs ≡ 2 * length xs
+unfolding inputs_of
+inputs-count xs inputs e = ap length e ∙ length-tab _ _
+
+pairs-count : (n : ℕ) (pairs : List Float) → pairs ≡ pairs_of n → length pairs ≡ 12 * n
+unfolding pairs_of
+pairs-count n pairs e = ap length e ∙ length-tab _ _
+
+two-more : (h n : ℕ) → h < n / 2 → 2 * h + 2 ≤ n
+two-more h n g = omega arith
+
+pub short-step : (t n : ℕ) → n ≤ 960 → 2 * t + 8 ≤ n → 2 * (2 * t + 1 + n) < 8000
+short-step t n h g = omega arith
+
+-- the next four pairs of sums, from inputs i and i + 1
+abbrev pub termed : List Float → List Float → ℕ → List ℕ → List Float → List Float
+termed pairs inputs i at acc =
+    tab (λ (e : ℕ). add binary64 (get_or acc e nan) (mul binary64 (get_or inputs (i + e % 2) nan) (get_or pairs (get_or at (e / 2) 0 + e % 2) nan))) 8
+
+-- the places a step on
+abbrev pub stepped : ℕ → List ℕ → List ℕ
+stepped s at = tab (λ (j : ℕ). get_or at j 0 + (s + 4 * j)) 4
+
+-- ---- where turn h begins
+
+pub record Turn (xs pairs inputs : List Float) (t h : ℕ) (at : List ℕ) (acc : List Float) : Type 0 where
+  pub frame : is_frame_size (length xs) ≡ true
+  pub tables : (pairs ≡ pairs_of (length xs)) × (inputs ≡ inputs_of xs)
+  pub room : 2 * t + 8 ≤ length xs
+  pub more : h < length xs / 2
+  pub at_is : at ≡ tab (λ (j : ℕ). 2 * places (length xs) t (2 * h) j) 4
+  pub acc_is : acc ≡ tab (sums (length xs) xs t (2 * h)) 8
+
+module _ (xs pairs inputs : List Float) (t h : ℕ) (at : List ℕ) (acc : List Float) (w : Turn xs pairs inputs t h at acc) where
+  abbrev n : ℕ
+  n = length xs
+
+  size : Size n
+  size = sized _ w.frame
+
+  left : 2 * h + 2 ≤ n
+  left = two-more h n w.more
+
+  next : 2 * h < n
+  next = omega (arith, left)
+
+  next-2 : 2 * h + 1 < n
+  next-2 = omega (arith, left)
+
+  pub turns-few : (2 * h + 2 ≤ 960) × (n ≤ 960)
+  turns-few = (omega (arith, left, few n w.frame), few n w.frame)
+
+  pub pairs-in : length pairs ≤ 11520
+  pairs-in = omega (arith, pairs-count n pairs w.tables.0, few n w.frame)
+
+  pub inputs-in : (i : ℕ) → i + 2 ≤ 4 * h + 4 → i + 2 ≤ length inputs
+  inputs-in i g = omega (arith, left, inputs-count xs inputs w.tables.1)
+
+  in_pairs : (b : List ℕ) → ((j : ℕ) → j < 4 → get_or b j 0 + 2 ≤ 12 * n) → (j : ℕ) → j < 4 → get_or b j 0 + 2 ≤ length pairs
+  in_pairs b g j i = omega (arith, pairs-count n pairs w.tables.0, g j i)
+
+  pub sums-count : length acc ≡ 8
+  sums-count = ap length w.acc_is ∙ length-tab _ 8
+
+  pub reads : (j : ℕ) → j < 4 → get_or at j 0 + 2 ≤ length pairs
+  reads = in_pairs at (on-table n t size w.room (2 * h) _ _ w.at_is (first-in n t size w.room (2 * h)))
+
+  pub count : length at ≡ 4
+  count = at_count n t size w.room (2 * h) _ _ w.at_is
+
+  pub small : (j : ℕ) → j < 4 → get_or at j 0 < 16000
+  small = before n t size w.room (2 * h) _ _ w.at_is 16000 (first_small n t size w.room (2 * h))
+
+  -- after the first input
+  module _ (to : List Float) (d : to ≡ termed pairs inputs (4 * h) at acc) where
+    sums-1 : to ≡ tab (sums n xs t (2 * h + 1)) 8
+    sums-1 =
+        sums-more n t size w.room (2 * h) _ _ w.at_is xs refl next (first-in n t size w.room (2 * h)) (first_on n t size w.room (2 * h))
+        (4 * h) _ _ _ _ (omega arith) w.tables.1 w.tables.0 w.acc_is d
+
+    pub sums-1-count : length to ≡ 8
+    sums-1-count = ap length sums-1 ∙ length-tab _ 8
+
+  -- after the first step
+  module _ (b : List ℕ) (s : ℕ) (e : s ≡ 2 * (2 * t + 1 + n)) (g : b ≡ stepped s at) where
+    lanes-1 : b ≡ tab (λ (j : ℕ). 2 * (places n t (2 * h) j + step_of n t j)) 4
+    lanes-1 = moved n t size w.room (2 * h) _ _ w.at_is s e _ g
+
+    pub reads-1 : (j : ℕ) → j < 4 → get_or b j 0 + 2 ≤ length pairs
+    reads-1 = in_pairs b (on-table n t size w.room (2 * h) _ _ lanes-1 (second-in n t size w.room (2 * h)))
+
+    pub count-1 : length b ≡ 4
+    count-1 = at_count n t size w.room (2 * h) _ _ lanes-1
+
+    pub small-1 : (j : ℕ) → j < 4 → get_or b j 0 < 16000
+    small-1 = before n t size w.room (2 * h) _ _ lanes-1 16000 (second-small n t size w.room (2 * h))
+
+    -- after the second input
+    module _ (to : List Float) (d : to ≡ termed pairs inputs (4 * h) at acc) (on : List Float) (f : on ≡ termed pairs inputs (4 * h + 2) b to) where
+      pub sums-2 : on ≡ tab (sums n xs t (2 * h + 1 + 1)) 8
+      sums-2 =
+          sums-more n t size w.room (2 * h + 1) _ _ lanes-1 xs refl next-2 (second-in n t size w.room (2 * h)) (second-on n t size w.room (2 * h))
+          (4 * h + 2) _ _ _ _ (omega arith) w.tables.1 w.tables.0 (sums-1 to d) f
+
+    -- after the second step
+    module _ (b₂ : List ℕ) (g₂ : b₂ ≡ stepped s b) where
+      lanes-2 : b₂ ≡ tab (λ (j : ℕ). 2 * (places n t (2 * h) j + step_of n t j + step_of n t j)) 4
+      lanes-2 = moved n t size w.room (2 * h) _ _ lanes-1 s e _ g₂
+
+      pub count-2 : length b₂ ≡ 4
+      count-2 = at_count n t size w.room (2 * h) _ _ lanes-2
+
+      pub small-2 : (j : ℕ) → j < 4 → get_or b₂ j 0 < 2 * (8 * n)
+      small-2 = before n t size w.room (2 * h) _ _ lanes-2 _ (third-small n t size w.room (2 * h))
+
+      -- back in the circle
+      pub lanes-3 : (b₃ : List ℕ) → b₃ ≡ tab (λ (j : ℕ). get_or b₂ j 0 % (8 * n)) 4 → b₃ ≡ tab (λ (j : ℕ). 2 * places n t (2 * h + 1 + 1) j) 4
+      lanes-3 b₃ g₃ = turned n t size w.room (2 * h + 1 + 1) _ _ lanes-2 _ g₃ (third-on n t size w.room (2 * h))
