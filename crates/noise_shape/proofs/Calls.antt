@@ -2,14 +2,16 @@
 use mathlib.Core.Path.{◌≡◌, refl, ap, ap₂}
 use mathlib.Core.List.{List}
 use mathlib.Core.Bool.{Bool, true, false, ◌&&◌}
-use Prim.Native.Nat.{ℕ, ◌*◌, ◌≤◌}
+use Prim.Native.Nat.{ℕ, ◌+◌, ◌*◌, ◌≤◌, ◌<◌}
+use native.Mathlib.Omega.{arith}
 use lib.ListN.{length}
 use lib.Dec.{leb}
 use lib.Ieee.{Float}
 use borrow.Author.Tests.{leb-true, le-leb}
+use Rattle.custom_mode.specs.Mode.{edge}
 use Rattle.loops.specs.Logic.{and-true}
 use Rattle.loops.specs.Reply.{Reply, reply, reply_if, reply-lent, reply-yes, reply-no}
-use Rattle.noise_shape.specs.Shape.{Shape, shaped, noise_shape, shape_takes}
+use Rattle.noise_shape.specs.Shape.{lo, band_in, Shape, shaped, noise_shape, shape_takes}
 
 pub fits : (m start size : ℕ) → shape_takes m start size ≡ true → (m ≤ 8) × (start ≤ 21) × (m * 100 ≤ size)
 unfolding shape_takes
@@ -38,3 +40,11 @@ module _ (m start seed : ℕ) (bins : List Float) where
   shape-left h k l e =
       let q = reply-lent _ _ _ e (takes m start (length bins) h k l) in
       (ap (λ (x : Shape). x.seed) q, ap (λ (x : Shape). x.bins) q)
+
+-- band i lies within the bins
+pub ends : (m i a e : ℕ) → a ≡ edge i → e ≡ edge (i + 1) → i < 21 → (m * a ≤ m * e) × (m * e ≤ m * 100)
+ends m i a e p q h =
+    let lower : m * a ≡ lo m i = ap (λ z. m * z) p in
+    let upper : m * e ≡ lo m (i + 1) = ap (λ z. m * z) q in
+    let v = band_in m i h in
+    (omega arith, omega arith)

@@ -3,20 +3,12 @@ use Prim.Native.Nat.{ℕ, ◌+◌, ◌<◌, ◌≤◌, ◌-◌, ◌*◌}
 use native.Mathlib.Omega.{arith}
 use lib.ListN.{length}
 use borrow.Author.Rules.{rules}
-use Rattle.custom_mode.specs.Mode.{edge}
 use Rattle.noise_shape.specs.Shape.{lo, band_in, Shape, noise_turn, noise_shape}
 use Rattle.loops.specs.Fold.{fold_range, range_none}
 use Rattle.noise_shape.proofs.Laws.{noise_more}
+use Rattle.noise_shape.proofs.Calls.{ends}
 use borrow.Rule.Slice.PartMut.{mid_of, mid_len, same_len_mid}
 use Rattle.noise_shape.proofs.shape_each.Goals as goal
-
--- the band lies within the bins
-ends : (m i a e : ℕ) → a ≡ edge i → e ≡ edge (i + 1) → i < 21 → (m * a ≤ m * e) × (m * e ≤ m * 100)
-ends m i a e p q h =
-    let lower : m * a ≡ lo m i = ap (λ z. m * z) p in
-    let upper : m * e ≡ lo m (i + 1) = ap (λ z. m * z) q in
-    let v = band_in m i h in
-    (omega arith, omega arith)
 
 pub loop-i-init : goal.loop-i-init
 loop-i-init c =
