@@ -1,2 +1,2 @@
-mod Hidden
+mod Unseen
 pub mod Same

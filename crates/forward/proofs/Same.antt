@@ -19,7 +19,7 @@ use Rattle.state.proofs.Keep.{Ok, ok-start}
 use Rattle.pitch_loss.specs.PitchLoss.{pitch_tails}
 use Rattle.loss.specs.Loss.{made, tails_by_noise, tails_by_pitch, tails_after, history_after, finish, concealed, answered, loss}
 use Rattle.forward.specs.Loss.{forward_tails, forward_by_pitch, forward_history, forward_answered, forward_loss}
-use Rattle.forward.proofs.Hidden.{forward-hidden}
+use Rattle.forward.proofs.Unseen.{forward-hidden}
 
 tails-hidden : (two : Bool) (n lag : ℕ) (first : Bool) (c : List Float) (f : Filter) (t : Tails) → Sized t → n ≤ half
     → forward_tails two n lag first c f t ≡ pitch_tails two n lag first c f t

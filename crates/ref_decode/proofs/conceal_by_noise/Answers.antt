@@ -1,0 +1,13 @@
+-- `ref_decode::conceal_by_noise` meets its contract: what the path made, and then the finish.
+use Rattle.finish.proofs.End.{accepted_state}
+use Rattle.ref_decode.proofs.Entry.{noise_left}
+use borrow.Author.Rules.{rules}
+use Rattle.ref_decode.proofs.conceal_by_noise.Goals as goal
+
+pub noise_made-made-requires : goal.noise_made-made-requires
+noise_made-made-requires c = accepted_state _ _ _ c.requires.0
+
+pub returns : goal.returns
+returns c =
+    let y = c.noise_made-made in
+    noise_left c.args.s c.args.history.now c.args.pcm.now _ y.result _ c.finish.ensures y.auto.history c.requires.0 c.requires.1 y.ensures.0 y.ensures.1
