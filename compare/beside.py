@@ -112,10 +112,15 @@ def compare_records(todo, left, right, tally=None, done=0):
 
 
 def program(name, check=True):
-    """The path of a proved program of this repository, or None where there is no such crate."""
-    if not (ROOT / "crates" / name).is_dir():
+    """The path of a proved program of this repository, or None where there is no such crate. `rt run`
+    proves and builds it, and runs it once: empty input writes nothing."""
+    crate = ROOT / "crates" / name
+    if not crate.is_dir():
         return None
-    path = ROOT / "target" / "bin" / name
-    if check and subprocess.run(["rt", "check", name], cwd=ROOT, stdout=subprocess.DEVNULL).returncode:
-        raise SystemExit(f"compare: `rt check {name}` failed")
+    path = crate / "out" / name
+    if check:
+        done = subprocess.run(["rt", "run"], cwd=crate, stdin=subprocess.DEVNULL, capture_output=True)
+        if done.returncode:
+            raise SystemExit(f"compare: `rt run` in crates/{name} failed\n"
+                             + done.stderr.decode(errors="replace")[-2000:])
     return path if os.access(path, os.X_OK) else None

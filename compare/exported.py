@@ -1,8 +1,8 @@
 """Functions of this repository as a static library that Rust can link.
 
-The functions named in leaf/*.rt.txt are exported from a crate of their own, proved and written by
-`rt staticlib`. It stands in a temporary repository, since every `.rt` file here belongs to a listed
-crate."""
+The functions named in leaf/*.rt.txt are exported from a crate of their own, a static library, which
+`rt lib` proves and builds. It stands in a temporary repository, since every `.rt` file here belongs to
+a listed crate."""
 import shutil
 import subprocess
 import tempfile
@@ -29,30 +29,28 @@ def library(archive, only=None, root=beside.ROOT):
     with tempfile.TemporaryDirectory() as place:
         scratch = Path(place)
         source(root, scratch, {name: deps for name, deps in crates.items() if name in needed}, files.values())
-        subprocess.run(["rt", "staticlib", "leaf"], cwd=scratch, check=True, stdout=subprocess.DEVNULL)
-        shutil.copy(scratch / "target/staticlib/libleaf.a", archive)
+        leaf = scratch / "crates/leaf"
+        subprocess.run(["rt", "lib"], cwd=leaf, check=True, stdout=subprocess.DEVNULL)
+        shutil.copy(leaf / "out/libleaf.a", archive)
     return archive
 
 
 def repository(root):
     """The crates of a repository: name and dependencies."""
-    lines = (root / "crates.txt").read_text().splitlines()
-    pairs = (line.split(":") for line in lines if ":" in line and not line.startswith("#"))
-    return {name.strip(): deps.split() for name, deps in pairs}
+    lines = (line.partition("#")[0] for line in (root / "crates.txt").read_text().splitlines())
+    pairs = (line.split(":") for line in lines if ":" in line)
+    return {name.split()[0]: deps.split() for name, deps in pairs}
 
 
 def source(root, scratch, crates, files):
     """The scratch repository: the crates, what is already proved of them, and the leaf functions."""
     for name in crates:
-        shutil.copytree(root / "crates" / name, scratch / "crates" / name)
-        for kind, path in (("rlib", f"{name}.rlib"), ("stamp", name)):
-            proved = root / "target" / kind / path
-            if proved.is_dir():
-                shutil.copytree(proved, scratch / "target" / kind / path)
-            elif proved.is_file():
-                (scratch / "target" / kind).mkdir(parents=True, exist_ok=True)
-                shutil.copy2(proved, scratch / "target" / kind / path)
+        crate, copy = root / "crates" / name, scratch / "crates" / name
+        shutil.copytree(crate, copy, ignore=shutil.ignore_patterns("out"))
+        if (crate / "out/rlib").is_dir():
+            shutil.copytree(crate / "out/rlib", copy / "out/rlib")
     (scratch / "crates/leaf/src").mkdir(parents=True)
     lines = [" ".join([f"{name}:", *deps]) for name, deps in crates.items()]
-    (scratch / "crates.txt").write_text("\n".join(lines + [f"leaf: {' '.join(crates)}"]) + "\n")
-    (scratch / "crates/leaf/src/lib.rt").write_text("\n".join(f.read_text() for f in files))
+    (scratch / "crates.txt").write_text("\n".join(lines + [f"leaf staticlib: {' '.join(crates)}"]) + "\n")
+    text = ["#![tactic(auto)]\n", *(f.read_text() for f in files)]
+    (scratch / "crates/leaf/src/lib.rt").write_text("\n".join(text))

@@ -1,9 +1,9 @@
 /* Concealment of lost CELT frames, for C and C++.
 
-   Build the library with `rt staticlib vikkozhan` and link target/staticlib/libvikkozhan.a. It is for
-   x86-64, keeps no memory between calls and allocates none, so any number of threads may call it at
-   once, each on buffers of its own. A call takes up to 175 kB of stack: a thread of its own wants
-   256 kB. */
+   Build the library with `rt lib` in crates/vikkozhan and link crates/vikkozhan/out/libvikkozhan.a.
+   It is for x86-64 (x86-64-v2: SSE4.2), keeps no memory between calls and allocates none, so any
+   number of threads may call it at once, each on buffers of its own. A call takes up to 175 kB of
+   stack: a thread of its own wants 256 kB. */
 #ifndef VIKKOZHAN_H
 #define VIKKOZHAN_H
 

@@ -405,11 +405,11 @@ class Library(unittest.TestCase):
             library.__wrapped__()
 
     def test_not_built(self):
-        with mock.patch("vikkozhan.library.PLACE", pathlib.Path("/nowhere/target/staticlib/libvikkozhan.so")):
+        with mock.patch("vikkozhan.library.PLACE", pathlib.Path("/nowhere/crates/vikkozhan/out/libvikkozhan.so")):
             with self.assertRaises(LibraryError) as caught:
                 self.load("")
-        self.assertEqual(str(caught.exception), "no /nowhere/target/staticlib/libvikkozhan.so: run"
-                         " `rt staticlib vikkozhan` and then `bindings/python/build`, in /nowhere")
+        self.assertEqual(str(caught.exception), "no /nowhere/crates/vikkozhan/out/libvikkozhan.so: run"
+                         " `rt lib` in crates/vikkozhan and then `bindings/python/build`, in /nowhere")
 
     def test_cannot_be_used(self):
         for name in ("/nowhere.so", "libc.so.6", str(START_LINE)):

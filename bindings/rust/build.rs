@@ -14,7 +14,7 @@ fn main() {
     println!("cargo:rerun-if-changed={}", archive.display());
     if !archive.is_file() {
         eprintln!(
-            "vikkozhan: no {ARCHIVE} in {}: `rt staticlib vikkozhan` makes it in target/staticlib, \
+            "vikkozhan: no {ARCHIVE} in {}: `rt lib` in crates/vikkozhan makes it in that crate's out, \
              and {FOLDER} says where else it is",
             folder.display()
         );
@@ -28,7 +28,8 @@ fn main() {
 fn folder() -> PathBuf {
     let here = env::var_os("CARGO_MANIFEST_DIR").expect("cargo sets CARGO_MANIFEST_DIR");
     let given = env::var_os(FOLDER).map(PathBuf::from);
-    let folder = Path::new(&here).join(given.unwrap_or_else(|| "../../target/staticlib".into()));
+    let folder =
+        Path::new(&here).join(given.unwrap_or_else(|| "../../crates/vikkozhan/out".into()));
     // Without the `..`, for who reads it; the name of a folder that is not there stays as it is.
     folder.canonicalize().unwrap_or(folder)
 }

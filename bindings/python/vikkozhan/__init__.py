@@ -10,7 +10,7 @@ A Concealer holds what a decoder carries: a State and its History. `conceal` mak
 moves both on. A call that is refused raises Refused and changes nothing.
 
 The library's shared object is loaded by the first call that needs it. It is looked for in the
-environment variable VIKKOZHAN_LIBRARY, then in target/staticlib of the repository.
+environment variable VIKKOZHAN_LIBRARY, then in crates/vikkozhan/out of the repository.
 """
 from .concealer import Concealed, Concealer
 from .kinds import Kind

@@ -8,7 +8,7 @@ import pathlib
 from .state import State
 
 MAJOR = 1  # of the header that this package follows
-PLACE = pathlib.Path(__file__).resolve().parents[3] / "target" / "staticlib" / "libvikkozhan.so"
+PLACE = pathlib.Path(__file__).resolve().parents[3] / "crates" / "vikkozhan" / "out" / "libvikkozhan.so"
 
 
 class LibraryError(Exception):
@@ -44,8 +44,8 @@ def library():
     their own run side by side."""
     name = os.environ.get("VIKKOZHAN_LIBRARY")
     if not name and not PLACE.exists():
-        raise LibraryError("no %s: run `rt staticlib vikkozhan` and then `bindings/python/build`, in %s"
-                           % (PLACE, PLACE.parents[2]))
+        raise LibraryError("no %s: run `rt lib` in crates/vikkozhan and then `bindings/python/build`, in %s"
+                           % (PLACE, PLACE.parents[3]))
     try:
         loaded = declared(ctypes.CDLL(name or str(PLACE)))
     except (OSError, AttributeError) as error:
