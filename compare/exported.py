@@ -30,7 +30,9 @@ def library(archive, only=None, root=beside.ROOT):
         scratch = Path(place)
         source(root, scratch, {name: deps for name, deps in crates.items() if name in needed}, files.values())
         leaf = scratch / "crates/leaf"
-        subprocess.run(["rt", "lib"], cwd=leaf, check=True, stdout=subprocess.DEVNULL)
+        done = subprocess.run(["rt", "lib"], cwd=leaf, capture_output=True, text=True)
+        if done.returncode:
+            raise SystemExit(f"compare: `rt lib` of {', '.join(files)} failed\n{(done.stdout + done.stderr)[-2000:]}")
         shutil.copy(leaf / "out/libleaf.a", archive)
     return archive
 
