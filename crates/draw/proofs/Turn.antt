@@ -3,7 +3,8 @@ use Rattle.std.proofs.Common.{◌≡◌, ℕ, ◌+◌, ◌*◌, ◌%◌, ◌^◌
 use lib.Ieee.{Float, nan}
 use Rattle.loops.specs.Front.{front, tab, tab-more}
 use Rattle.float_bits.specs.Words.{noise_value, wrapping_mul}
-use Rattle.draw.specs.Draw.{draw, draws, draws-more}
+use Rattle.draw.specs.Draw.{draw, draws}
+use Rattle.draw.proofs.Draws.{draws-more}
 use Rattle.draw.specs.Noise.{noise_at}
 
 -- a wrapping product and a wrapping sum are one draw

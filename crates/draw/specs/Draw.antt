@@ -14,17 +14,6 @@ pub draws-none : (s : ℕ) → draws 0 s ≡ s
 unfolding draws
 draws-none s = refl
 
--- a draws and then b are a + b draws
-pub draws-add : (a b s : ℕ) → draws (a + b) s ≡ draws b (draws a s)
-unfolding draws
-draws-add zero b s = ap (λ n. draws n s) (zero-add b)
-draws-add (suc a) b s = ap (λ n. draws n s) (suc-add a b) ∙ draws-add a b (draw s)
-
--- one more draw, after d and before d
-pub draws-more : (d s : ℕ) → draws (d + 1) s ≡ draw (draws d s)
-unfolding draws
-draws-more d s = draws-add d 1 s
-
 -- a seed is a 32-bit word
 pub draw-word : (s : ℕ) → draw s < 2 ^ 32
 unfolding draw

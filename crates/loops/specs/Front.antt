@@ -1,5 +1,5 @@
 -- Loops that fill a list: its first places are replaced, one after the other, by the outputs.
-use Rattle.std.specs.Prelude.{◌≡◌, refl, ℕ, zero, suc, ◌+◌, ◌≤◌, ◌<◌, ◌-◌, length, take, replicate, Bool, true, false, eqb}
+use Rattle.std.specs.Prelude.{◌≡◌, refl, ℕ, zero, suc, ◌+◌, ◌≤◌, ◌<◌, length, take, replicate, Bool, true, false, eqb}
 use Rattle.std.proofs.Math.Path.{ap, sym}
 use Rattle.std.proofs.Common.{◌∙◌, arith, add-one, length-append, drop_of_length-le, drop-cons, length-take-le, take-suc, ext_get_or, eqb-true}
 use mathlib.Core.List.{List, [], ◌∷◌, ◌++◌, append-nil, map, map-append}

@@ -19,10 +19,12 @@ use Rattle.float_bits.specs.Words.{noise_step, noise_value}
 use Rattle.float_bits.specs.Noise.{noise_mag, noise_exact}
 use Rattle.float_bits.proofs.Laws.{here_or_on}
 use Rattle.float_near.specs.Near.{Near}
-use Rattle.draw.specs.Draw.{draws, draws-more, draw-word}
+use Rattle.draw.specs.Draw.{draws, draw-word}
+use Rattle.draw.proofs.Draws.{draws-more}
 use Rattle.draw.specs.Noise.{noise_at, noise_band, length-noise_band}
 use Rattle.band_quant.specs.Renormalise.{square64_at, floor64, energy64, factor_of, renormalise_vector}
-use Rattle.band_quant.specs.Zeros.{Zero, AllZero, zeros-stay}
+use Rattle.band_quant.specs.Zeros.{Zero, AllZero}
+use Rattle.band_quant.proofs.Zeros.{zeros-stay}
 use Rattle.noise_shape.specs.Shape.{band_noise}
 use Rattle.loudness.specs.Energy.{count, Counted, energy, one, UnitEnergy, NoEnergy}
 use Rattle.loudness.specs.Loudness.{widest, asked, reached, Heard, Loudness}

@@ -9,7 +9,8 @@ use Rattle.std.proofs.Math.ListN.{length}
 use Rattle.loops.specs.Fold.{fold_to, fold_range}
 use Rattle.loops.specs.Part.{put, length-put}
 use Rattle.buffers.specs.Buffers.{one32}
-use Rattle.draw.specs.Draw.{draws, draws-none, draws-add}
+use Rattle.draw.specs.Draw.{draws, draws-none}
+use Rattle.draw.proofs.Draws.{draws-add}
 use Rattle.draw.specs.Noise.{noise_band, length-noise_band}
 use Rattle.band_quant.specs.Renormalise.{renormalise_vector, length-renormalise_vector}
 use Rattle.custom_mode.specs.Mode.{bands, last_edge, edges, edge}

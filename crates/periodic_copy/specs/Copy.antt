@@ -44,21 +44,6 @@ unfolding decay_at
 decay_more lag d x p i q e =
     ap (λ z. decayed z x) q ∙ fold_more (λ (x : Float) (k : ℕ). decayed (position_at lag k) x) d x i e
 
--- a step stays within the excitation
-pub stepped-lt : (lag p : ℕ) → p < half → 0 < lag → stepped lag p < half
-unfolding stepped
-stepped-lt lag p h g = go (eqb (p + 1) half) refl
-  where
-    go : (b : Bool) → eqb (p + 1) half ≡ b → cond b (p + 1 - lag) (p + 1) < half
-    go true e = omega arith
-    go false e = omega (arith, eqb-false (p + 1) half e)
-
--- so every sample's position is one of 0 to 1,023
-pub position_in : (lag i : ℕ) → 0 < lag → position_at lag i < half
-unfolding position_at fold_to
-position_in lag zero h = omega arith
-position_in lag (suc i) h = stepped-lt lag (position_at lag i) (position_in lag i h) h
-
 unfoldable pub periodic_copy : List Float → ℕ → Float → ℕ → List Float
 periodic_copy exc lag d n = tab (λ (i : ℕ). mul binary32 (decay_at lag d i) (get_or exc (position_at lag i) nan)) n
 

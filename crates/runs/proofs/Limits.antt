@@ -9,7 +9,8 @@ use lib.ListN.{drop}
 use lib.Ieee.{Float}
 use lib.Dec.{eqb}
 use borrow.Author.Tests.{eqb-true, ne_eqb}
-use Rattle.draw.specs.Draw.{draws, draws-add}
+use Rattle.draw.specs.Draw.{draws}
+use Rattle.draw.proofs.Draws.{draws-add}
 use Rattle.history.specs.History.{half, Tails, tails, both}
 use Rattle.history.proofs.Parts.{newest-tails}
 use Rattle.settings.specs.Settings.{frame, stereo, needed, draws_per_loss}

@@ -10,7 +10,8 @@ use lib.Seq.{slice}
 use lib.Ieee.{Float}
 use lib.Dec.{eqb}
 use borrow.Author.Tests.{eqb-true, eqb-false}
-use Rattle.draw.specs.Draw.{draws, draws-add}
+use Rattle.draw.specs.Draw.{draws}
+use Rattle.draw.proofs.Draws.{draws-add}
 use Rattle.custom_mode.specs.Mode.{last_edge}
 use Rattle.history.specs.History.{half, overlap, Tails, tails, both}
 use Rattle.history.proofs.Parts.{tails-sized, newest-tails}

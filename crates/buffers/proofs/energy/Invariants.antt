@@ -1,11 +1,8 @@
-use mathlib.Core.Path.{◌≡◌, ap, ◌∙◌, sym}
-use mathlib.Core.List.{List}
+use mathlib.Core.Path.{◌≡◌}
 use Prim.Native.Nat.{◌≤◌, ◌-◌}
-use lib.ListN.{length}
-use borrow.Author.Rules.{rules}
-use lib.Ieee.{Float, binary32}
-use Rattle.loops.specs.Sum.{sum_to, sum-none, sum_more}
-use Rattle.buffers.specs.Buffers.{energy, square_at}
+use lib.Ieee.{binary32}
+use Rattle.loops.specs.Sum.{sum_to}
+use Rattle.buffers.specs.Buffers.{square_at}
 use Rattle.buffers.proofs.energy.Given as goal
 
 abbrev pub invariant-loop-i : goal.invariant-loop-i

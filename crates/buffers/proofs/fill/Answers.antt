@@ -1,8 +1,6 @@
-use mathlib.Core.Path.{◌≡◌}
-use Prim.Native.Nat.{◌≤◌, ◌-◌}
-use lib.ListN.{length, length-set, replicate}
+use lib.ListN.{length-set}
 use borrow.Author.Rules.{rules}
-use Rattle.loops.specs.Front.{front, fill_none, fill_more, fill-all}
+use Rattle.loops.specs.Front.{fill_none, fill_more, fill-all}
 use Rattle.buffers.proofs.fill.Goals as goal
 
 pub loop-i-init : goal.loop-i-init

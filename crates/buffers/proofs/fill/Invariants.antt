@@ -1,8 +1,7 @@
 use mathlib.Core.Path.{◌≡◌}
 use Prim.Native.Nat.{◌≤◌, ◌-◌}
-use lib.ListN.{length, length-set, replicate}
-use borrow.Author.Rules.{rules}
-use Rattle.loops.specs.Front.{front, fill_none, fill_more, fill-all}
+use lib.ListN.{length, replicate}
+use Rattle.loops.specs.Front.{front}
 use Rattle.buffers.proofs.fill.Given as goal
 
 abbrev pub invariant-loop-i : goal.invariant-loop-i

@@ -1,10 +1,7 @@
-use mathlib.Core.Path.{◌≡◌}
-use mathlib.Core.List.{map}
-use Prim.Native.Nat.{◌≤◌, ◌-◌}
-use lib.ListN.{length, take, length-set}
+use lib.ListN.{length-set}
 use borrow.Author.Rules.{rules}
 use lib.Ieee.{nan}
-use Rattle.loops.specs.Front.{front, map-none, map_more, map-all}
+use Rattle.loops.specs.Front.{map-none, map_more, map-all}
 use Rattle.buffers.specs.Buffers.{times}
 use Rattle.buffers.proofs.scale.Goals as goal
 

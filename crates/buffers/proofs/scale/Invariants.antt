@@ -1,10 +1,8 @@
 use mathlib.Core.Path.{◌≡◌}
 use mathlib.Core.List.{map}
 use Prim.Native.Nat.{◌≤◌, ◌-◌}
-use lib.ListN.{length, take, length-set}
-use borrow.Author.Rules.{rules}
-use lib.Ieee.{nan}
-use Rattle.loops.specs.Front.{front, map-none, map_more, map-all}
+use lib.ListN.{length, take}
+use Rattle.loops.specs.Front.{front}
 use Rattle.buffers.specs.Buffers.{times}
 use Rattle.buffers.proofs.scale.Given as goal
 

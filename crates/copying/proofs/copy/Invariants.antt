@@ -1,10 +1,7 @@
-use mathlib.Core.Path.{◌≡◌, ap, ◌∙◌}
+use mathlib.Core.Path.{◌≡◌}
 use Prim.Native.Nat.{◌≤◌, ◌-◌}
-use lib.ListN.{length, take, length-set}
-use lib.Ieee.{nan}
-use borrow.Author.Rules.{rules}
-use Rattle.loops.specs.Front.{front, copy-none, copy_more}
-use Rattle.copying.proofs.Laws.{shorter-within, copy-all}
+use lib.ListN.{length, take}
+use Rattle.loops.specs.Front.{front}
 use Rattle.copying.proofs.copy.Given as goal
 
 abbrev pub invariant-loop-i : goal.invariant-loop-i

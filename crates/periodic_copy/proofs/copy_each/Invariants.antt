@@ -6,7 +6,8 @@ use lib.ListN.{length, get_or, length-set}
 use borrow.Author.Rules.{rules}
 use lib.Ieee.{Float, nan, binary32, add, mul}
 use Rattle.loops.specs.Front.{front, tab, tab-none, tab-more, tab-all}
-use Rattle.periodic_copy.specs.Copy.{stepped-lt, stepped, position_at, decay_at, periodic_copy, copied_energy, position-none, position-more, decay_none, decay_more}
+use Rattle.periodic_copy.specs.Copy.{stepped, position_at, decay_at, periodic_copy, copied_energy, position-none, position-more, decay_none, decay_more}
+use Rattle.periodic_copy.proofs.Positions.{stepped-lt}
 use Rattle.buffers.specs.Buffers.{zero32, square_at}
 use Rattle.history.specs.History.{half}
 use Rattle.loops.specs.Sum.{sum_to, sum-none, sum_more}

@@ -1,10 +1,10 @@
 use Rattle.loops.specs.Reply.{reply-yes, reply-no}
-use Rattle.loops.specs.Front.{front, tab, tab-none, tab-more, tab-read, tab-all}
+use Rattle.loops.specs.Front.{tab-none, tab-more, tab-read, tab-all}
 use Rattle.plc_lag_window.specs.LagWindow.{lag_value, lag_window}
 use borrow.Author.Tests.{le-leb, lt-leb}
 use lib.Ieee.{nan}
 use mathlib.Core.Path.{◌≡◌, refl, ap, ◌∙◌}
-use Prim.Native.Nat.{ℕ, ◌≤◌, ◌<◌, ◌-◌}
+use Prim.Native.Nat.{◌≤◌, ◌<◌}
 use lib.ListN.{length, get_or, length-set}
 use borrow.Author.Rules.{rules}
 use Rattle.plc_lag_window.proofs.lag_window.Goals as goal

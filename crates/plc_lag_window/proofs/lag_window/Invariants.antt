@@ -1,12 +1,9 @@
-use Rattle.loops.specs.Reply.{reply-yes, reply-no}
-use Rattle.loops.specs.Front.{front, tab, tab-none, tab-more, tab-read, tab-all}
-use Rattle.plc_lag_window.specs.LagWindow.{lag_value, lag_window}
-use borrow.Author.Tests.{le-leb, lt-leb}
+use Rattle.loops.specs.Front.{front, tab}
+use Rattle.plc_lag_window.specs.LagWindow.{lag_value}
 use lib.Ieee.{nan}
-use mathlib.Core.Path.{◌≡◌, refl, ap, ◌∙◌}
-use Prim.Native.Nat.{ℕ, ◌≤◌, ◌<◌, ◌-◌}
-use lib.ListN.{length, get_or, length-set}
-use borrow.Author.Rules.{rules}
+use mathlib.Core.Path.{◌≡◌}
+use Prim.Native.Nat.{ℕ, ◌≤◌, ◌-◌}
+use lib.ListN.{length, get_or}
 use Rattle.plc_lag_window.proofs.lag_window.Given as goal
 
 abbrev pub invariant-loop-i : goal.invariant-loop-i

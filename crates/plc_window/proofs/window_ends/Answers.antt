@@ -1,6 +1,5 @@
 -- After i turns both ends have the window on i samples.
 use mathlib.Core.Path.{◌≡◌, ap, ◌∙◌, sym}
-use Prim.Native.Nat.{◌≤◌, ◌-◌}
 use lib.ListN.{length, length-set}
 use borrow.Author.Rules.{rules}
 use Rattle.loops.specs.Fold.{fold_to, fold-none, fold_more}

@@ -1,10 +1,9 @@
 -- After i turns both ends have the window on i samples.
-use mathlib.Core.Path.{◌≡◌, ap, ◌∙◌, sym}
+use mathlib.Core.Path.{◌≡◌}
 use Prim.Native.Nat.{◌≤◌, ◌-◌}
-use lib.ListN.{length, length-set}
-use borrow.Author.Rules.{rules}
-use Rattle.loops.specs.Fold.{fold_to, fold-none, fold_more}
-use Rattle.plc_window.specs.Window.{window_turn, windowed_ends}
+use lib.ListN.{length}
+use Rattle.loops.specs.Fold.{fold_to}
+use Rattle.plc_window.specs.Window.{window_turn}
 use Rattle.plc_window.proofs.window_ends.Given as goal
 
 abbrev pub invariant-loop-i : goal.invariant-loop-i

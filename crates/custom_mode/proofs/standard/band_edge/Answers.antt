@@ -1,6 +1,5 @@
 use mathlib.Core.Path.{sym}
 use lib.ListN.{get_or-eq_default}
-use borrow.Author.Rules.{rules}
 use Rattle.custom_mode.specs.Mode.{edges, edge}
 use Rattle.custom_mode.proofs.Tables.{read-any}
 use Rattle.custom_mode.proofs.standard.band_edge.Goals as goal

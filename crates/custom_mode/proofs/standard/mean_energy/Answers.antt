@@ -1,6 +1,5 @@
 use mathlib.Core.Path.{sym}
 use lib.ListN.{get_or-eq_default}
-use borrow.Author.Rules.{rules}
 use lib.Ieee.{nan, of_bits, binary32}
 use Rattle.custom_mode.specs.Mode.{means, mean}
 use Rattle.custom_mode.proofs.Tables.{read-any}

@@ -1,4 +1,4 @@
-use Rattle.std.proofs.Common.{ℕ, ◌-◌, ◌^◌, ◌<◌, ℤ, negsuc, sym, ap, ◌∙◌, subst, arith, to_z-of_z, w32, SFits, to_z, of_z, rules}
+use Rattle.std.proofs.Common.{ℕ, ◌-◌, ◌^◌, ◌<◌, ℤ, negsuc, sym, ap, ◌∙◌, subst, arith, to_z-of_z, w32, SFits, to_z, of_z}
 use mir.Facts.{to_z_pos}
 use Rattle.float_bits.proofs.Word.{below-minus}
 use Rattle.float_bits.specs.Noise.{signed_low, signed_high}

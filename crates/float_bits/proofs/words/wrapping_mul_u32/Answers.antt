@@ -1,4 +1,4 @@
-use Rattle.std.proofs.Common.{◌-◌, ◌^◌, ◌≤◌, refl, lt_of_le_of_lt, mul-le-mul, arith, lit<, rules}
+use Rattle.std.proofs.Common.{◌-◌, ◌^◌, ◌≤◌, refl, lt_of_le_of_lt, mul-le-mul, arith, lit<}
 use Rattle.float_bits.specs.Words.{wrapping_mul}
 use Rattle.float_bits.proofs.words.wrapping_mul_u32.Goals as goal
 
