@@ -1,5 +1,5 @@
 -- A band whose values are all zero, of either sign, stays as it is at gain 1, whatever its width.
-use Rattle.std.specs.Prelude.{◌≡◌, refl, List, [], ◌∷◌, map, ◌⊎◌, ℕ, zero, suc, ◌<◌, length, get_or, Float}
+use Rattle.std.specs.Prelude.{◌≡◌, refl, List, [], ◌∷◌, map, ℕ, zero, suc, ◌<◌, length, get_or, Float}
 use Rattle.std.proofs.Common.{ap, ap₂, ◌∙◌, sym, inl, inr, add-one, arith}
 use Rattle.std.specs.Float.{nan, binary32, binary64}
 use Rattle.std.specs.Float.Ieee.{add, mul, div, of_bits}

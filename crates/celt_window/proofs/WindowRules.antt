@@ -6,7 +6,7 @@ use Rattle.std.specs.Float.Ieee.{of_bits}
 use Rattle.loops.specs.Every.{every, every-at}
 use Rattle.cosine_table.specs.Scaled.{scaled, is_scaled, get_or-scaled}
 use Rattle.celt_window.specs.Window.{window_bits, window, length-window}
-use Rattle.celt_window.specs.WindowRules.{scaled_window, pair_power, WindowRules}
+use Rattle.celt_window.specs.WindowRules.{WindowRules}
 
 -- ---- tests that antt computes over the whole table, and what they show of each entry
 

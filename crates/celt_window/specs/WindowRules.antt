@@ -1,11 +1,8 @@
 -- The rules of the window, over whole numbers: an entry times 2 ^ 36 is one.
-use Rattle.std.specs.Prelude.{◌≡◌, refl, Bool, List, [], ◌∷◌, map, ℕ, zero, suc, ◌+◌, ◌-◌, ◌*◌, ◌^◌, ◌≤◌, ◌<◌, T, leb, ltb, length, get_or}
-use Rattle.std.proofs.Common.{subst, arith, le_of_suc-le-suc, not-suc-le-zero, ltb→lt, leb→le}
+use Rattle.std.specs.Prelude.{ℕ, suc, ◌+◌, ◌-◌, ◌*◌, ◌^◌, ◌≤◌, ◌<◌, T, get_or}
 use Rattle.std.specs.Float.{nan}
-use Rattle.std.specs.Float.Ieee.{of_bits}
-use Rattle.loops.specs.Every.{every, every-at}
-use Rattle.cosine_table.specs.Scaled.{scaled, is_scaled, get_or-scaled}
-use Rattle.celt_window.specs.Window.{window_bits, window, length-window}
+use Rattle.cosine_table.specs.Scaled.{scaled, is_scaled}
+use Rattle.celt_window.specs.Window.{window}
 
 -- entry i times 2 ^ 36
 abbrev pub scaled_window : ℕ → ℕ

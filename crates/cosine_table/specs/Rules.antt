@@ -1,12 +1,8 @@
 -- The rules of the table, over whole numbers: an entry times 2 ^ 63 is one.
-use Rattle.std.specs.Prelude.{◌≡◌, refl, Bool, true, false, List, [], ◌∷◌, map, ℕ, zero, suc, ◌+◌, ◌*◌, ◌^◌, ◌≤◌, ◌<◌, T, leb, ltb, pos, length, get_or}
-use Rattle.std.proofs.Common.{arith, le_of_suc-le-suc, not-suc-le-zero}
-use Rattle.std.proofs.Math.Dec.{ltb→lt, leb→le}
+use Rattle.std.specs.Prelude.{◌≡◌, false, ℕ, suc, ◌+◌, ◌*◌, ◌^◌, ◌≤◌, ◌<◌, T, pos, get_or}
 use Rattle.std.specs.Float.{nan, fin}
-use Rattle.std.specs.Float.Ieee.{of_bits}
-use Rattle.loops.specs.Every.{and_then, and_then-left, and_then-right, every, every-at}
-use Rattle.cosine_table.specs.Cosines.{cosine_bits, cosines, length-cosines}
-use Rattle.cosine_table.specs.Scaled.{scaled, is_scaled, get_or-scaled}
+use Rattle.cosine_table.specs.Cosines.{cosines}
+use Rattle.cosine_table.specs.Scaled.{scaled, is_scaled}
 
 -- entry j times 2 ^ 63
 abbrev pub scaled_cosine : ℕ → ℕ

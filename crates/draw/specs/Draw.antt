@@ -1,6 +1,6 @@
 -- The linear congruential generator: `celt_lcg_rand`, and any number of draws.
 use Rattle.std.specs.Prelude.{◌≡◌, ℕ, zero, suc, ◌+◌, ◌*◌, ◌%◌, ◌^◌, ◌<◌, refl}
-use Rattle.std.proofs.Common.{ap, ◌∙◌, suc-add, zero-add, mod-lt, lit<}
+use Rattle.std.proofs.Common.{mod-lt, lit<}
 
 unfoldable pub draw : ℕ → ℕ
 draw s = (s * 1_664_525 + 1_013_904_223) % 2 ^ 32

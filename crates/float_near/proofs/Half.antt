@@ -7,7 +7,7 @@ use native.Mathlib.Nat.{le_trans, le_of_eq, lt_of_le_of_lt, lt_of_lt_of_le, eq-o
 use native.Mathlib.Nat.{mul-le-mul_left, mul-le-mul_right, mul-lt-mul_of_pos_right, mod-lt, div-add-mod', le-div_iff_mul-le, lt_irrefl}
 use native.Mathlib.Omega.{arith}
 use lib.Pow.{pow-add, pow_pos, pow_mono}
-use lib.Ieee.{Format, binary32, binary64, prec, low, size, nearest, units}
+use lib.Ieee.{Format, binary32, binary64, prec, low, size, nearest}
 use lib.Ieee.Digits.{size_reaches}
 use lib.Ieee.Fits.{two, two-le_pos}
 use lib.Ieee.Nearest.{closest}

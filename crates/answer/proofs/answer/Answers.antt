@@ -1,7 +1,6 @@
 -- `answer::answer` meets its contract: the head and the record are the outcome's.
 use mathlib.Core.Path.{ap₂}
 use native.Mathlib.Omega.{arith}
-use borrow.Author.Rules.{rules}
 use Rattle.answer.specs.Answer.{with_record}
 use Rattle.answer.proofs.Answers.{head-is, record_is}
 use Rattle.answer.proofs.answer.Goals as goal

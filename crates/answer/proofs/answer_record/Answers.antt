@@ -1,5 +1,4 @@
 -- `answer::answer_record` meets its contract: other lengths leave both buffers.
-use borrow.Author.Rules.{rules}
 use Rattle.answer.proofs.Answers.{stays, answers, accepted, not-record, no_room}
 use Rattle.answer.proofs.answer_record.Goals as goal
 

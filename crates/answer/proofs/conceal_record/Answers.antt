@@ -1,7 +1,6 @@
 -- `answer::conceal_record` meets its contract: what was read is the record's, and the call its outcome.
 use mathlib.Core.Path.{ap, ◌∙◌}
 use lib.ListN.{length}
-use borrow.Author.Rules.{rules}
 use Rattle.loss.specs.Loss.{in_buffer}
 use Rattle.answer.proofs.Answers.{outcome-from}
 use Rattle.answer.proofs.conceal_record.Goals as goal

@@ -1,6 +1,5 @@
 -- `answer::keep_record` meets its contract: written where the number is 0.
 use mathlib.Core.Path.{◌∙◌, sym}
-use borrow.Author.Rules.{rules}
 use borrow.Author.Tests.{eq-eqb, ne_eqb}
 use Rattle.loops.specs.Pick.{pick_true, pick-false}
 use Rattle.loops.specs.Reply.{reply-lent}

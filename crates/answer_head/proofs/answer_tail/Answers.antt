@@ -1,6 +1,5 @@
 -- `answer_head::answer_tail` meets its contract: nothing for nothing, three words for a cut record.
 use native.Mathlib.Omega.{arith}
-use borrow.Author.Rules.{rules}
 use Rattle.words.proofs.Laws.{put-held}
 use Rattle.answer_head.proofs.Heads.{tail-no-room, tail_none, tail-cut}
 use Rattle.answer_head.proofs.answer_tail.Goals as goal

@@ -3,7 +3,6 @@ use mathlib.Core.Path.{◌∙◌, sym}
 use native.Mathlib.Omega.{arith}
 use lib.ListN.{length, take}
 use lib.Seq.{length-take-le}
-use borrow.Author.Rules.{rules}
 use Rattle.words.proofs.Laws.{put-held}
 use Rattle.answer_head.proofs.Heads.{head-parts, head-fits, head-no-room, head_too_many, head-not-there, head-written, head-stays}
 use Rattle.answer_head.proofs.write_head.Goals as goal

@@ -1,4 +1,3 @@
-use Rattle.std.proofs.Common.{rules}
 use Rattle.band_gain.proofs.Gains.{gain_none, gain_some, within, fits-min}
 use Rattle.band_gain.proofs.band_gain.Goals as goal
 

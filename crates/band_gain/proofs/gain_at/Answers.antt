@@ -1,4 +1,3 @@
-use Rattle.std.proofs.Common.{rules}
 use Rattle.band_gain.specs.Gain.{series}
 use Rattle.band_gain.proofs.Gains.{gain_is}
 use Rattle.band_gain.proofs.gain_at.Goals as goal

@@ -1,4 +1,4 @@
-use Rattle.std.proofs.Common.{◌≡◌, ◌+◌, ◌-◌, ◌^◌, ◌≤◌, true, false, sym, ◌∙◌, subst, arith, le→leb, rules}
+use Rattle.std.proofs.Common.{◌≡◌, ◌+◌, ◌-◌, ◌^◌, true, false, sym, ◌∙◌, subst, arith, le→leb}
 use lib.Dec.{T}
 use lib.Ieee.{Float, binary32, fits, in_float}
 use Rattle.band_gain.specs.Gain.{steps, GainRange}

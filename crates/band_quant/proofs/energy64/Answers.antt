@@ -1,6 +1,6 @@
 -- After i turns the first i squares are added.
 use mathlib.Core.Path.{◌≡◌, ap, ◌∙◌, sym}
-use Prim.Native.Nat.{◌≤◌, ◌-◌}
+use Prim.Native.Nat.{◌-◌}
 use lib.ListN.{length}
 use lib.Ieee.{binary64}
 use borrow.Author.Rules.{rules}

@@ -1,12 +1,9 @@
 -- After i turns the first i squares are added.
-use mathlib.Core.Path.{◌≡◌, ap, ◌∙◌, sym}
+use mathlib.Core.Path.{◌≡◌}
 use Prim.Native.Nat.{◌≤◌, ◌-◌}
-use lib.ListN.{length}
 use lib.Ieee.{binary64}
-use borrow.Author.Rules.{rules}
-use Rattle.loops.specs.Sum.{sum_to, sum-none}
-use Rattle.band_quant.specs.Renormalise.{square64_at, floor64, energy64}
-use Rattle.band_quant.proofs.Turn.{energy-more}
+use Rattle.loops.specs.Sum.{sum_to}
+use Rattle.band_quant.specs.Renormalise.{square64_at, floor64}
 use Rattle.band_quant.proofs.energy64.Given as goal
 
 abbrev pub invariant-loop-i : goal.invariant-loop-i

@@ -1,5 +1,4 @@
 -- The energy, the factor, and every value times it.
-use borrow.Author.Rules.{rules}
 use Rattle.band_quant.proofs.Turn.{renormalised}
 use Rattle.band_quant.proofs.renormalise_vector.Goals as goal
 

@@ -1,5 +1,4 @@
 -- `window::low_overlap_window` meets its contract: by the tests on the way to each return.
-use borrow.Author.Rules.{rules}
 use borrow.Author.Tests.{lt-ltb, le-ltb}
 use Rattle.celt_window.specs.Window.{low_overlap_window}
 use Rattle.celt_window.proofs.low_overlap_window.Goals as goal

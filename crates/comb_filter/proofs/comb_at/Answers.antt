@@ -1,5 +1,4 @@
 use mathlib.Core.Path.{refl}
-use borrow.Author.Rules.{rules}
 use Rattle.comb_filter.specs.Comb.{comb_at, pair_at}
 use Rattle.comb_filter.proofs.comb_at.Goals as goal
 

@@ -7,7 +7,7 @@ use lib.ListN.{length}
 use lib.Dec.{eqb}
 use lib.Ieee.{Float}
 use borrow.Author.Rules.{rules}
-use borrow.Author.Tests.{eq-eqb, ne_eqb, not-true, not-false}
+use borrow.Author.Tests.{eq-eqb, ne_eqb}
 use Rattle.loops.specs.Logic.{and_both, and_first, and_second}
 use Rattle.loops.specs.Reply.{reply-yes, reply-no}
 use Rattle.post_filter.specs.Limits.{filter_fits, fits_each}

@@ -1,11 +1,9 @@
-use mathlib.Core.Path.{◌≡◌, ap, ◌∙◌}
+use mathlib.Core.Path.{◌≡◌}
 use Prim.Native.Nat.{ℕ, ◌+◌, ◌≤◌, ◌-◌}
-use lib.ListN.{length, length-set}
-use borrow.Author.Rules.{rules}
-use lib.Ieee.{Float, nan}
-use Rattle.loops.specs.Front.{front, tab, tab-none, tab-more, tab-all}
+use lib.ListN.{length}
+use Rattle.loops.specs.Front.{front, tab}
 use Rattle.history.specs.History.{half, overlap}
-use Rattle.comb_filter.specs.Comb.{comb_at, comb_filter_to}
+use Rattle.comb_filter.specs.Comb.{comb_at}
 use Rattle.comb_filter.proofs.filter_each.Given as goal
 
 abbrev pub invariant-loop-i : goal.invariant-loop-i

@@ -1,6 +1,5 @@
 use mathlib.Core.Path.{ap}
 use lib.ListN.{get_or}
-use borrow.Author.Rules.{rules}
 use lib.Ieee.{Float, nan, binary32, mul, neg}
 use Rattle.comb_filter.specs.Comb.{tap_gain}
 use Rattle.comb_filter.proofs.tap_gains.Goals as goal

@@ -1,5 +1,4 @@
 -- `cosine_pairs::corner` meets its contract: one quarter of the circle for each arm.
-use borrow.Author.Rules.{rules}
 use Rattle.cosine_pairs.proofs.Pairs.{corner_first, corner_second, corner_third, corner_fourth}
 use Rattle.cosine_pairs.proofs.corner.Goals as goal
 

@@ -3,7 +3,7 @@ use mathlib.Core.Path.{◌≡◌, refl, ap, ◌∙◌}
 use Prim.Native.Nat.{◌+◌, ◌*◌, ◌/◌, ◌≤◌, ◌<◌, ◌-◌}
 use native.Mathlib.Omega.{arith}
 use native.Mathlib.Nat.{le_antisymm}
-use lib.ListN.{length, length-set}
+use lib.ListN.{length-set}
 use borrow.Author.Rules.{rules}
 use Rattle.cosine_circle.proofs.Sizes.{Size, sized, at_least, at_most, per_most}
 use Rattle.cosine_pairs.proofs.Pairs.{parts-least, parts-most, room, quarter_to, quarter-none, quarter-more}

@@ -1,12 +1,8 @@
 -- `cosine_pairs::quarter` meets its contract: the first p pairs of the quarter are written, and each step lies within a quarter of the circle.
-use mathlib.Core.Path.{◌≡◌, refl, ap, ◌∙◌}
-use Prim.Native.Nat.{◌+◌, ◌*◌, ◌/◌, ◌≤◌, ◌<◌, ◌-◌}
-use native.Mathlib.Omega.{arith}
-use native.Mathlib.Nat.{le_antisymm}
-use lib.ListN.{length, length-set}
-use borrow.Author.Rules.{rules}
-use Rattle.cosine_circle.proofs.Sizes.{Size, sized, at_least, at_most, per_most}
-use Rattle.cosine_pairs.proofs.Pairs.{parts-least, parts-most, room, quarter_to, quarter-none, quarter-more}
+use mathlib.Core.Path.{◌≡◌}
+use Prim.Native.Nat.{◌≤◌, ◌-◌}
+use lib.ListN.{length}
+use Rattle.cosine_pairs.proofs.Pairs.{quarter_to}
 use Rattle.cosine_pairs.proofs.quarter.Given as goal
 
 abbrev pub invariant-loop-p : goal.invariant-loop-p

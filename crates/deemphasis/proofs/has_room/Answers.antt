@@ -1,5 +1,4 @@
 use Prim.Native.Nat.{◌%◌}
-use borrow.Author.Rules.{rules}
 use borrow.Author.Tests.{lt-leb, le-leb, ne_eqb, eq-eqb}
 use Rattle.deemphasis.specs.Deemphasis.{has_room}
 use Rattle.deemphasis.proofs.has_room.Goals as goal

@@ -1,7 +1,6 @@
 use mathlib.Core.Path.{ap}
 use lib.ListN.{get_or}
 use lib.Ieee.{nan, binary32, add, sub, mul}
-use borrow.Author.Rules.{rules}
 use Rattle.deemphasis.specs.Deemphasis.{next_memory}
 use Rattle.deemphasis.proofs.next_memory.Goals as goal
 

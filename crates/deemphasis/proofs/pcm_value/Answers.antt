@@ -1,7 +1,6 @@
 use mathlib.Core.Path.{ap}
 use lib.ListN.{get_or}
 use lib.Ieee.{nan, binary32, add, mul}
-use borrow.Author.Rules.{rules}
 use Rattle.deemphasis.specs.Deemphasis.{pcm_value, per_scale}
 use Rattle.deemphasis.proofs.pcm_value.Goals as goal
 

@@ -1,13 +1,9 @@
-use mathlib.Core.Path.{◌≡◌, ap, ◌∙◌}
+use mathlib.Core.Path.{◌≡◌}
 use mathlib.Core.List.{[], ◌∷◌}
-use Prim.Native.Nat.{ℕ, ◌+◌, ◌≤◌, ◌-◌, ◌*◌, ◌/◌}
-use native.Mathlib.Omega.{arith}
-use lib.ListN.{length, length-set}
-use borrow.Author.Rules.{rules}
-use lib.Ieee.{Float, nan}
-use Rattle.loops.specs.Front.{front, tab, tab-none, tab-more}
+use Prim.Native.Nat.{◌≤◌, ◌-◌, ◌*◌}
+use lib.ListN.{length}
+use Rattle.loops.specs.Front.{front, tab}
 use Rattle.deemphasis.specs.Deemphasis.{memory_to, value_at}
-use Rattle.deemphasis.proofs.Laws.{next-in, next-is, all-samples, memory_none, memory_more, value-mono}
 use Rattle.deemphasis_mono.proofs.filter_mono.Given as goal
 
 abbrev pub invariant-loop-j : goal.invariant-loop-j

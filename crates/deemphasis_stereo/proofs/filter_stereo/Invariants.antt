@@ -1,13 +1,9 @@
-use mathlib.Core.Path.{◌≡◌, ap, ap₂, ◌∙◌, sym, subst}
-use mathlib.Core.List.{List, [], ◌∷◌}
-use Prim.Native.Nat.{ℕ, ◌+◌, ◌≤◌, ◌<◌, ◌-◌, ◌*◌, ◌/◌}
-use native.Mathlib.Omega.{arith}
-use lib.ListN.{length, set, length-set}
-use borrow.Author.Rules.{rules}
-use lib.Ieee.{Float, nan}
-use Rattle.loops.specs.Front.{front, tab, tab-none, tab-more}
+use mathlib.Core.Path.{◌≡◌}
+use mathlib.Core.List.{[], ◌∷◌}
+use Prim.Native.Nat.{◌≤◌, ◌-◌, ◌*◌}
+use lib.ListN.{length}
+use Rattle.loops.specs.Front.{front, tab}
 use Rattle.deemphasis.specs.Deemphasis.{memory_to, value_at}
-use Rattle.deemphasis.proofs.Laws.{next-in, next-is, all-samples, memory_none, memory_more, value-first, value-second}
 use Rattle.deemphasis_stereo.proofs.filter_stereo.Given as goal
 
 abbrev pub invariant-loop-j : goal.invariant-loop-j

@@ -1,6 +1,5 @@
 -- `direct::decode_lost` meets its contract: `decode_lost`'s, word by word.
 use native.Mathlib.Omega.{arith}
-use borrow.Author.Rules.{rules}
 use Rattle.direct.proofs.Laws.{samples-most, call-is}
 use Rattle.direct.proofs.decode_lost.Goals as goal
 

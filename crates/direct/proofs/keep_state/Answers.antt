@@ -1,6 +1,5 @@
 -- `direct::keep_state` meets its contract: written where the number is 0.
 use mathlib.Core.Path.{◌∙◌, sym}
-use borrow.Author.Rules.{rules}
 use borrow.Author.Tests.{eq-eqb, ne_eqb}
 use Rattle.loops.specs.Pick.{pick_true, pick-false}
 use Rattle.direct.proofs.keep_state.Goals as goal

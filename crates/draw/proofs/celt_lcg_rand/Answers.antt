@@ -1,4 +1,3 @@
-use Rattle.std.proofs.Common.{rules}
 use Rattle.draw.proofs.Turn.{draw-done}
 use Rattle.draw.proofs.celt_lcg_rand.Goals as goal
 

@@ -1,9 +1,9 @@
-use Rattle.std.proofs.Common.{◌≡◌, ◌-◌, ◌≤◌, length, sym, ap, ◌∙◌, length-set, rules}
-use Rattle.loops.specs.Front.{front, tab, tab-none, tab-all}
+use Rattle.std.proofs.Common.{◌≡◌, ◌-◌, length, sym, ap, ◌∙◌, length-set, rules}
+use Rattle.loops.specs.Front.{tab-none, tab-all}
 use lib.Ieee.{nan}
 use Rattle.draw.specs.Draw.{draws, draws-none}
 use Rattle.draw.proofs.Turn.{seed_more, noise_more}
-use Rattle.draw.specs.Noise.{noise_at, noise_band}
+use Rattle.draw.specs.Noise.{noise_band}
 use Rattle.draw.proofs.noise_fill.Goals as goal
 
 pub loop-i-init : goal.loop-i-init

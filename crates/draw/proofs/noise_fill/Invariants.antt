@@ -1,9 +1,7 @@
-use Rattle.std.proofs.Common.{◌≡◌, ◌-◌, ◌≤◌, length, sym, ap, ◌∙◌, length-set, rules}
-use Rattle.loops.specs.Front.{front, tab, tab-none, tab-all}
-use lib.Ieee.{nan}
-use Rattle.draw.specs.Draw.{draws, draws-none}
-use Rattle.draw.proofs.Turn.{seed_more, noise_more}
-use Rattle.draw.specs.Noise.{noise_at, noise_band}
+use Rattle.std.proofs.Common.{◌≡◌, ◌-◌, ◌≤◌, length}
+use Rattle.loops.specs.Front.{front, tab}
+use Rattle.draw.specs.Draw.{draws}
+use Rattle.draw.specs.Noise.{noise_at}
 use Rattle.draw.proofs.noise_fill.Given as goal
 
 abbrev pub invariant-loop-i : goal.invariant-loop-i

@@ -2,7 +2,6 @@ use mathlib.Core.Path.{◌≡◌, refl, ap, ◌∙◌}
 use mathlib.Core.Bool.{not}
 use mathlib.Core.List.{map}
 use lib.Ieee.{Float}
-use borrow.Author.Rules.{rules}
 use Rattle.buffers.specs.Buffers.{times}
 use Rattle.energy_guard.specs.Guard.{exceeds, muted, back_scale}
 use Rattle.energy_guard.proofs.Ways.{guard_zeroed, guard-scaled, guard-kept}

@@ -1,7 +1,5 @@
 use mathlib.Core.Path.{refl, ◌∙◌, sym}
 use lib.ListN.{length}
-use borrow.Author.Rules.{rules}
-use borrow.Author.Tests.{not-true, not-false}
 use Rattle.loops.specs.Reply.{reply-yes, reply-no}
 use Rattle.extrapolate.specs.Extrapolate.{extrapolated}
 use Rattle.extrapolate.proofs.Steps.{Fits, takes-fits, extrapolate_is}

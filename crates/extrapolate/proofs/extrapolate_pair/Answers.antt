@@ -1,12 +1,10 @@
-use mathlib.Core.Path.{◌≡◌, refl, ◌∙◌, sym}
+use mathlib.Core.Path.{refl, ◌∙◌, sym}
 use mathlib.Core.Bool.{true}
 use lib.ListN.{length}
-use borrow.Author.Rules.{rules}
-use borrow.Author.Tests.{not-true, not-false}
 use Rattle.loops.specs.Reply.{reply-yes, reply-no}
 use Rattle.plc_iir_pair.specs.Pair.{channels}
 use Rattle.extrapolate.specs.Extrapolate.{extrapolated, extrapolate_pair_takes}
-use Rattle.extrapolate.proofs.Steps.{Fits, pair_fits, pair_is}
+use Rattle.extrapolate.proofs.Steps.{pair_fits, pair_is}
 use Rattle.extrapolate.proofs.extrapolate_pair.Goals as goal
 
 pub returns-then-not-pair_takes : goal.returns-then-not-pair_takes

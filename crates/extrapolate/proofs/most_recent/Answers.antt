@@ -1,9 +1,9 @@
 use mathlib.Core.Path.{◌≡◌, refl}
-use Prim.Native.Nat.{ℕ, ◌≤◌, ◌-◌}
-use lib.ListN.{length, get_or, length-set}
+use Prim.Native.Nat.{ℕ, ◌-◌}
+use lib.ListN.{get_or, length-set}
 use borrow.Author.Rules.{rules}
 use lib.Ieee.{Float, nan}
-use Rattle.loops.specs.Front.{front, tab, tab-none, tab-more, tab-all}
+use Rattle.loops.specs.Front.{tab-none, tab-more, tab-all}
 use Rattle.history.specs.History.{half}
 use Rattle.extrapolate.specs.Extrapolate.{order, recent}
 use Rattle.extrapolate.proofs.most_recent.Goals as goal

@@ -1,11 +1,10 @@
-use mathlib.Core.Path.{◌≡◌, refl}
+use mathlib.Core.Path.{◌≡◌}
 use Prim.Native.Nat.{ℕ, ◌≤◌, ◌-◌}
-use lib.ListN.{length, get_or, length-set}
-use borrow.Author.Rules.{rules}
-use lib.Ieee.{Float, nan}
-use Rattle.loops.specs.Front.{front, tab, tab-none, tab-more, tab-all}
+use lib.ListN.{length, get_or}
+use lib.Ieee.{nan}
+use Rattle.loops.specs.Front.{front, tab}
 use Rattle.history.specs.History.{half}
-use Rattle.extrapolate.specs.Extrapolate.{order, recent}
+use Rattle.extrapolate.specs.Extrapolate.{order}
 use Rattle.extrapolate.proofs.most_recent.Given as goal
 
 abbrev pub invariant-loop-j : goal.invariant-loop-j

@@ -1,7 +1,6 @@
 -- `finish::finish` meets its contract: refused by the first number that applies, else concluded.
-use mathlib.Core.Path.{◌≡◌, sym, ◌∙◌}
+use mathlib.Core.Path.{sym, ◌∙◌}
 use Rattle.finish.proofs.End.{refused-is, concluded, finished-refused}
-use borrow.Author.Rules.{rules}
 use Rattle.finish.proofs.finish.Goals as goal
 
 pub returns-then-value-ne0 : goal.returns-then-value-ne0

@@ -1,4 +1,3 @@
-use borrow.Author.Rules.{rules}
 use Prim.Native.Nat.{◌-◌, ◌*◌, ◌/◌}
 use native.Mathlib.Nat.{div-le_self, div-mul-le_self, mod-lt}
 use native.Mathlib.Omega.{arith}

@@ -1,4 +1,3 @@
-use borrow.Author.Rules.{rules}
 use Prim.Native.Nat.{◌/◌, ◌%◌, ◌^◌}
 use Rattle.float_root.proofs.Roots.{rad_sub, rad_norm}
 use Rattle.float_root.proofs.radicand.Goals as goal

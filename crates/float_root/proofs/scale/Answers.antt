@@ -1,5 +1,5 @@
-use Prim.Native.Nat.{◌*◌, ◌%◌, ◌^◌, ◌≤◌, ◌<◌}
-use mathlib.Core.Path.{◌≡◌, ◌∙◌}
+use Prim.Native.Nat.{◌%◌, ◌<◌}
+use mathlib.Core.Path.{◌∙◌}
 use native.Mathlib.Nat.{mod-lt}
 use lib.Dec.{lit<}
 use native.Mathlib.Omega.{arith}

@@ -1,9 +1,5 @@
-use Prim.Native.Nat.{◌*◌, ◌%◌, ◌^◌, ◌≤◌, ◌<◌}
-use mathlib.Core.Path.{◌≡◌, ◌∙◌}
-use native.Mathlib.Nat.{mod-lt}
-use lib.Dec.{lit<}
-use native.Mathlib.Omega.{arith}
-use Rattle.float_root.proofs.Roots.{start, step, some_left, first_small}
+use Prim.Native.Nat.{◌*◌, ◌^◌, ◌≤◌, ◌<◌}
+use mathlib.Core.Path.{◌≡◌}
 use Rattle.float_root.proofs.scale.Given as goal
 
 abbrev pub invariant-loop-m : goal.invariant-loop-m

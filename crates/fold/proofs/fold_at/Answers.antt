@@ -3,7 +3,6 @@ use mathlib.Core.List.{List}
 use Prim.Native.Nat.{ℕ, ◌-◌}
 use lib.ListN.{get_or}
 use lib.Ieee.{Float, nan, binary32, add, mul}
-use borrow.Author.Rules.{rules}
 use Rattle.fold.specs.Fold.{last, fold_at}
 use Rattle.fold.proofs.fold_at.Goals as goal
 

@@ -1,9 +1,9 @@
 use mathlib.Core.Path.{◌≡◌, ap, ◌∙◌}
-use Prim.Native.Nat.{◌≤◌, ◌-◌}
+use Prim.Native.Nat.{◌-◌}
 use lib.ListN.{length, length-set}
 use lib.Ieee.{nan}
 use borrow.Author.Rules.{rules}
-use Rattle.loops.specs.Front.{front, tab, tab-none, tab-more, tab-all}
+use Rattle.loops.specs.Front.{tab, tab-none, tab-more, tab-all}
 use Rattle.history.specs.History.{overlap}
 use Rattle.fold.specs.Fold.{fold_at, folded}
 use Rattle.fold.proofs.fold_in.Goals as goal

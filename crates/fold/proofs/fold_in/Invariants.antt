@@ -1,11 +1,9 @@
-use mathlib.Core.Path.{◌≡◌, ap, ◌∙◌}
+use mathlib.Core.Path.{◌≡◌}
 use Prim.Native.Nat.{◌≤◌, ◌-◌}
-use lib.ListN.{length, length-set}
-use lib.Ieee.{nan}
-use borrow.Author.Rules.{rules}
-use Rattle.loops.specs.Front.{front, tab, tab-none, tab-more, tab-all}
+use lib.ListN.{length}
+use Rattle.loops.specs.Front.{front, tab}
 use Rattle.history.specs.History.{overlap}
-use Rattle.fold.specs.Fold.{fold_at, folded}
+use Rattle.fold.specs.Fold.{fold_at}
 use Rattle.fold.proofs.fold_in.Given as goal
 
 abbrev pub invariant-loop-k : goal.invariant-loop-k

@@ -1,5 +1,4 @@
 use mathlib.Core.Path.{refl, ◌∙◌, sym}
-use borrow.Author.Rules.{rules}
 use Rattle.loops.specs.Reply.{reply-yes, reply-no}
 use Rattle.frame_sound.specs.FrameSound.{frame_sound, sound_in}
 use Rattle.frame_sound.proofs.Takes.{takes-each}

@@ -1,7 +1,7 @@
 use mathlib.Core.Path.{ap, ◌∙◌, sym}
 use lib.Dec.{leb}
 use borrow.Author.Rules.{rules}
-use borrow.Author.Tests.{eq-eqb, ne_eqb, not-true, not-false}
+use borrow.Author.Tests.{eq-eqb, ne_eqb}
 use Rattle.history.specs.History.{whole}
 use Rattle.frame_sound.specs.FrameSound.{sound_takes}
 use Rattle.frame_sound.proofs.sound_takes.Goals as goal

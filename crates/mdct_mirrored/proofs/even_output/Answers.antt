@@ -1,5 +1,4 @@
 -- `mdct_mirrored::even_output` meets its contract: the sum before the middle, or the mirrored one.
-use borrow.Author.Rules.{rules}
 use Rattle.mdct.specs.Imdct.{half_of}
 use Rattle.mdct_mirrored.specs.Mirrored.{even_sum}
 use Rattle.mdct_mirrored.proofs.Halves.{even-before, even-past}

@@ -2,10 +2,8 @@
 use mathlib.Core.Path.{◌≡◌, ap, ◌∙◌, sym}
 use Prim.Native.Nat.{ℕ, ◌≤◌, ◌*◌, ◌%◌}
 use lib.ListN.{length}
-use borrow.Author.Rules.{rules}
 use mathlib.Core.Bool.{true}
 use lib.Ieee.{binary64, of_bits}
-use borrow.Author.Tests.{not-true, not-false}
 use Rattle.cosine_circle.specs.Circle.{is_frame_size}
 use Rattle.cosine_circle.proofs.Sizes.{sized, even, at_most}
 use Rattle.mdct_pairs.proofs.Lent.{lent-count, back-size, back_is, back_in, back_count}

@@ -1,5 +1,4 @@
 -- `mdct_mirrored::odd_output` meets its contract: the sum before the middle, or the mirrored one with its sign turned.
-use borrow.Author.Rules.{rules}
 use Rattle.float_sign.specs.Turned.{turned}
 use Rattle.mdct.specs.Imdct.{half_of}
 use Rattle.mdct_mirrored.specs.Mirrored.{odd_sum}

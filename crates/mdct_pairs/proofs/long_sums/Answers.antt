@@ -5,7 +5,6 @@ use native.Mathlib.Omega.{arith}
 use mathlib.Core.Bool.{true}
 use lib.ListN.{length}
 use Rattle.cosine_circle.specs.Circle.{is_frame_size}
-use borrow.Author.Rules.{rules}
 use lib.Ieee.{binary64, of_bits}
 use Rattle.cosine_circle.proofs.Sizes.{sized, at_most}
 use Rattle.mdct_pairs.proofs.Lent.{lent-count}

@@ -3,10 +3,9 @@ use mathlib.Core.Path.{◌≡◌, refl, ◌∙◌, sym, ap₂}
 use mathlib.Core.List.{List}
 use Prim.Native.Nat.{ℕ}
 use lib.ListN.{length}
-use borrow.Author.Rules.{rules}
 use mathlib.Core.Bool.{true, false}
 use lib.Ieee.{Float}
-use borrow.Author.Tests.{not-true, not-false, eq-eqb, ne_eqb}
+use borrow.Author.Tests.{eq-eqb, ne_eqb}
 use Rattle.loops.specs.Logic.{and_both, and_first, and_second}
 use Rattle.loops.specs.Reply.{reply, reply-yes, reply-no}
 use Rattle.cosine_circle.specs.Circle.{is_frame_size}

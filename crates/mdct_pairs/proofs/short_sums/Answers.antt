@@ -1,7 +1,6 @@
 -- `mdct_pairs::short_sums` meets its contract: 1,440 and 240 places are what 120 inputs take.
 use mathlib.Core.Path.{◌≡◌, refl, ap, ◌∙◌, sym}
 use lib.ListN.{length}
-use borrow.Author.Rules.{rules}
 use Prim.Native.Nat.{◌*◌}
 use lib.Dec.{lit≤}
 use Rattle.cosine_circle.specs.Circle.{is_frame_size, size-is-frame}

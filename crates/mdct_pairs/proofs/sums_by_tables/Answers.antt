@@ -3,7 +3,6 @@ use mathlib.Core.Path.{◌≡◌}
 use mathlib.Core.List.{List}
 use Prim.Native.Nat.{ℕ, ◌*◌}
 use lib.ListN.{length}
-use borrow.Author.Rules.{rules}
 use mathlib.Core.Bool.{Bool, true}
 use lib.Ieee.{Float}
 use Rattle.loops.specs.Reply.{reply, reply-lent}

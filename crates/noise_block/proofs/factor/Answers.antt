@@ -1,4 +1,3 @@
-use borrow.Author.Rules.{rules}
 use Rattle.noise_block.proofs.Calls.{factor-is, factor-in}
 use Rattle.noise_block.proofs.factor.Goals as goal
 

@@ -2,7 +2,6 @@ use mathlib.Core.Path.{◌≡◌, ◌∙◌, sym}
 use mathlib.Core.Bool.{true}
 use Prim.Native.Nat.{◌*◌}
 use native.Mathlib.Omega.{arith}
-use borrow.Author.Rules.{rules}
 use Rattle.cosine_circle.specs.Circle.{is_frame_size}
 use Rattle.noise_block.proofs.Calls.{fits, frame-fits, block-taken, block_unfit, block-bands, block_size}
 use Rattle.noise_block.proofs.noise_block.Goals as goal

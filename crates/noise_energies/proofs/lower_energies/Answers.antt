@@ -1,11 +1,10 @@
-use mathlib.Core.Path.{◌≡◌}
-use Prim.Native.Nat.{◌≤◌, ◌-◌}
+use Prim.Native.Nat.{◌-◌}
 use native.Mathlib.Omega.{arith}
-use lib.ListN.{length, length-set}
+use lib.ListN.{length-set}
 use borrow.Author.Rules.{rules}
 use borrow.Author.Tests.{le-leb}
-use Rattle.loops.specs.Front.{front, tab, tab-none}
-use Rattle.noise_energies.specs.Energies.{dropped_at, lower_energies}
+use Rattle.loops.specs.Front.{tab-none}
+use Rattle.noise_energies.specs.Energies.{lower_energies}
 use Rattle.noise_energies.proofs.Laws.{lower-more, lower-all}
 use Rattle.noise_energies.proofs.lower_energies.Goals as goal
 

@@ -1,12 +1,8 @@
 use mathlib.Core.Path.{◌≡◌}
 use Prim.Native.Nat.{◌≤◌, ◌-◌}
-use native.Mathlib.Omega.{arith}
-use lib.ListN.{length, length-set}
-use borrow.Author.Rules.{rules}
-use borrow.Author.Tests.{le-leb}
-use Rattle.loops.specs.Front.{front, tab, tab-none}
-use Rattle.noise_energies.specs.Energies.{dropped_at, lower_energies}
-use Rattle.noise_energies.proofs.Laws.{lower-more, lower-all}
+use lib.ListN.{length}
+use Rattle.loops.specs.Front.{front, tab}
+use Rattle.noise_energies.specs.Energies.{dropped_at}
 use Rattle.noise_energies.proofs.lower_energies.Given as goal
 
 abbrev pub invariant-loop-i : goal.invariant-loop-i

@@ -1,6 +1,5 @@
 use mathlib.Core.Path.{refl, ◌∙◌, sym}
 use lib.ListN.{length}
-use borrow.Author.Rules.{rules}
 use Rattle.loops.specs.Reply.{reply-yes, reply-no}
 use Rattle.settings.proofs.Passed.{good}
 use Rattle.noise_loss.proofs.Channels.{takes_whole, takes-no_settings, takes-not-whole}

@@ -1,5 +1,4 @@
 use mathlib.Core.Path.{ap, ◌∙◌}
-use borrow.Author.Rules.{rules}
 use Rattle.buffers.specs.Buffers.{one32}
 use Rattle.band_quant.specs.Renormalise.{renormalise_vector}
 use Rattle.noise_shape.specs.Shape.{band_noise}

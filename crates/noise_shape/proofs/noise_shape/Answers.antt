@@ -1,5 +1,4 @@
 use mathlib.Core.Path.{◌∙◌, sym}
-use borrow.Author.Rules.{rules}
 use Rattle.noise_shape.proofs.Calls.{fits, shape-taken, shape-refused}
 use Rattle.noise_shape.proofs.noise_shape.Goals as goal
 

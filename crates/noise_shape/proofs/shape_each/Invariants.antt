@@ -1,12 +1,8 @@
-use mathlib.Core.Path.{◌≡◌, ap, ap₂, ◌∙◌, sym}
-use Prim.Native.Nat.{◌+◌, ◌≤◌, ◌-◌, ◌*◌}
-use native.Mathlib.Omega.{arith}
+use mathlib.Core.Path.{◌≡◌}
+use Prim.Native.Nat.{◌≤◌, ◌-◌}
 use lib.ListN.{length}
-use borrow.Author.Rules.{rules}
-use Rattle.noise_shape.specs.Shape.{lo, band_in, Shape, noise_turn, noise_shape}
-use Rattle.loops.specs.Fold.{fold_range, range_none}
-use Rattle.noise_shape.proofs.Laws.{noise_more}
-use borrow.Rule.Slice.PartMut.{mid_of, mid_len, same_len_mid}
+use Rattle.noise_shape.specs.Shape.{noise_turn}
+use Rattle.loops.specs.Fold.{fold_range}
 use Rattle.noise_shape.proofs.shape_each.Given as goal
 
 abbrev pub invariant-loop-i : goal.invariant-loop-i

@@ -1,4 +1,3 @@
-use borrow.Author.Rules.{rules}
 use borrow.Author.Tests.{lt-leb, le-leb}
 use Rattle.noise_shape.specs.Shape.{shape_takes}
 use Rattle.noise_shape.proofs.shape_fits.Goals as goal

@@ -1,15 +1,8 @@
-use mathlib.Core.Path.{◌≡◌, ap, ap₂, ◌∙◌, sym}
-use Prim.Native.Nat.{ℕ, ◌+◌, ◌≤◌, ◌-◌, ◌*◌}
-use native.Mathlib.Omega.{arith}
-use lib.ListN.{length, get_or}
-use borrow.Author.Rules.{rules}
-use Rattle.noise_shape.specs.Shape.{lo, band_in}
-use Rattle.noise_spectrum.specs.Spectrum.{gain_of_band, gain_turn}
-use Rattle.loops.specs.Fold.{fold_range, range_none}
-use Rattle.noise_spectrum.proofs.Laws.{gains_more}
-use lib.Ieee.{nan, binary32, add}
-use Rattle.band_gain.specs.Gain.{gain_of}
-use borrow.Rule.Slice.PartMut.{mid_of, mid_len, same_len_mid}
+use mathlib.Core.Path.{◌≡◌}
+use Prim.Native.Nat.{◌≤◌, ◌-◌}
+use lib.ListN.{length}
+use Rattle.noise_spectrum.specs.Spectrum.{gain_turn}
+use Rattle.loops.specs.Fold.{fold_range}
 use Rattle.noise_spectrum.proofs.apply_gains.Given as goal
 
 abbrev pub invariant-loop-i : goal.invariant-loop-i

@@ -1,6 +1,5 @@
 use mathlib.Core.Path.{◌∙◌, sym}
 use native.Mathlib.Omega.{arith}
-use borrow.Author.Rules.{rules}
 use Rattle.noise_spectrum.proofs.Calls.{fits, spectrum-taken, spectrum_unfit, spectrum-bands, spectrum-size}
 use Rattle.noise_spectrum.proofs.noise_spectrum.Goals as goal
 

@@ -1,16 +1,13 @@
-use mathlib.Core.Path.{◌≡◌, ap, ◌∙◌, sym}
+use mathlib.Core.Path.{◌≡◌}
 use mathlib.Core.List.{List}
 use Prim.Native.Nat.{ℕ, ◌≤◌, ◌<◌, ◌-◌}
-use native.Mathlib.Omega.{arith}
-use lib.ListN.{length, get_or, length-set}
-use borrow.Author.Rules.{rules}
-use lib.Ieee.{Float, nan, binary32, add, mul}
-use Rattle.loops.specs.Front.{front, tab, tab-none, tab-more, tab-all}
-use Rattle.periodic_copy.specs.Copy.{stepped, position_at, decay_at, periodic_copy, copied_energy, position-none, position-more, decay_none, decay_more}
-use Rattle.periodic_copy.proofs.Positions.{stepped-lt}
+use lib.ListN.{length, get_or}
+use lib.Ieee.{Float, nan, binary32, mul}
+use Rattle.loops.specs.Front.{front, tab}
+use Rattle.periodic_copy.specs.Copy.{position_at, decay_at}
 use Rattle.buffers.specs.Buffers.{zero32, square_at}
 use Rattle.history.specs.History.{half}
-use Rattle.loops.specs.Sum.{sum_to, sum-none, sum_more}
+use Rattle.loops.specs.Sum.{sum_to}
 use Rattle.periodic_copy.proofs.copy_each.Given as goal
 
 -- sample i of the copy

@@ -1,5 +1,4 @@
 use mathlib.Core.Path.{sym}
-use borrow.Author.Rules.{rules}
 use Rattle.loops.specs.Pick.{pick_true, pick-false}
 use borrow.Author.Tests.{eq-eqb, ne_eqb}
 use Rattle.periodic_copy.specs.Copy.{decayed}

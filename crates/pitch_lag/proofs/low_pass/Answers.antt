@@ -1,6 +1,5 @@
 use mathlib.Core.Path.{refl}
 use lib.ListN.{replicate}
-use borrow.Author.Rules.{rules}
 use Rattle.buffers.specs.Buffers.{zero32}
 use Rattle.history.specs.History.{half}
 use Rattle.pitch_lag.proofs.Laws.{low-one, low-two}

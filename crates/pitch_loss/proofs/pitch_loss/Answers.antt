@@ -1,11 +1,9 @@
-use mathlib.Core.Path.{◌≡◌, refl, ◌∙◌, sym}
+use mathlib.Core.Path.{refl, ◌∙◌, sym}
 use mathlib.Core.Bool.{true, false}
-use lib.ListN.{length}
-use borrow.Author.Tests.{eq-eqb, ne_eqb, not-true, not-false}
+use borrow.Author.Tests.{eq-eqb, ne_eqb}
 use Rattle.loops.specs.Reply.{reply-yes, reply-no}
 use Rattle.settings.specs.Settings.{stereo}
-use Rattle.pitch_loss.specs.PitchLoss.{pitch_takes}
-use Rattle.pitch_loss.proofs.Tails.{Fits, takes-fits, frame-fits, used-is}
+use Rattle.pitch_loss.proofs.Tails.{takes-fits, frame-fits, used-is}
 use Rattle.pitch_loss.proofs.pitch_loss.Goals as goal
 
 pub returns-then-not-takes : goal.returns-then-not-takes

@@ -1,12 +1,11 @@
 use mathlib.Core.Path.{◌≡◌}
 use mathlib.Core.List.{List}
 use Prim.Native.Nat.{◌+◌}
-use native.Mathlib.Omega.{arith}
 use lib.ListN.{length}
 use lib.Ieee.{Float}
 use borrow.Author.Rules.{rules}
 use Rattle.pitch_fit.specs.Fit.{order}
-use Rattle.pitch_predictor.proofs.Laws.{fit-first, room-second, fit-second, fit-mono, fit-stereo}
+use Rattle.pitch_predictor.proofs.Laws.{fit-first, fit-second, fit-mono, fit-stereo}
 use Rattle.pitch_predictor.proofs.fit_used.Goals as goal
 
 pub returns-then-two : goal.returns-then-two

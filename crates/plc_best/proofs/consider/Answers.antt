@@ -1,7 +1,6 @@
 use Rattle.plc_best.specs.Best.{considered}
 use Rattle.loops.specs.Pick.{pick_true, pick-false}
 use mathlib.Core.Path.{◌∙◌, sym}
-use borrow.Author.Rules.{rules}
 use Rattle.plc_best.proofs.consider.Goals as goal
 
 pub returns-then-x : goal.returns-then-x

@@ -1,7 +1,7 @@
 use Rattle.plc_best.specs.Best.{sweep_to, find_best_pitch, next_energy}
-use Rattle.plc_best.proofs.Turn.{first-energy, sweep, sweep-none, sweep-more}
+use Rattle.plc_best.proofs.Turn.{first-energy, sweep-none, sweep-more}
 use mathlib.Core.Path.{◌≡◌, ap, ◌∙◌, sym}
-use Prim.Native.Nat.{◌≤◌, ◌-◌}
+use Prim.Native.Nat.{◌-◌}
 use lib.Seq.{length-take-le}
 use borrow.Author.Rules.{rules}
 use Rattle.plc_best.proofs.two_best.Goals as goal

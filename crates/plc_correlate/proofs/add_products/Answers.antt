@@ -1,8 +1,7 @@
-use Rattle.loops.specs.Front.{front, tab, tab-none, tab-more, tab-all, tab-read}
-use lib.Ieee.{Float, nan, binary32, add, mul}
+use Rattle.loops.specs.Front.{tab-none, tab-more, tab-all, tab-read}
+use lib.Ieee.{nan, binary32, add, mul}
 use mathlib.Core.Path.{◌≡◌, refl, ap}
-use mathlib.Core.List.{List}
-use Prim.Native.Nat.{ℕ, ◌≤◌, ◌<◌, ◌-◌}
+use Prim.Native.Nat.{◌<◌, ◌-◌}
 use lib.ListN.{length, get_or, length-set}
 use borrow.Author.Rules.{rules}
 use Rattle.plc_correlate.proofs.add_products.Invariants.{term}

@@ -1,10 +1,9 @@
-use Rattle.loops.specs.Front.{front, tab, tab-none, tab-more, tab-all, tab-read}
+use Rattle.loops.specs.Front.{front, tab}
 use lib.Ieee.{Float, nan, binary32, add, mul}
-use mathlib.Core.Path.{◌≡◌, refl, ap}
+use mathlib.Core.Path.{◌≡◌}
 use mathlib.Core.List.{List}
-use Prim.Native.Nat.{ℕ, ◌≤◌, ◌<◌, ◌-◌}
-use lib.ListN.{length, get_or, length-set}
-use borrow.Author.Rules.{rules}
+use Prim.Native.Nat.{ℕ, ◌≤◌, ◌-◌}
+use lib.ListN.{length, get_or}
 use Rattle.plc_correlate.proofs.add_products.Given as goal
 
 abbrev pub term : Float → List Float → List Float → ℕ → Float

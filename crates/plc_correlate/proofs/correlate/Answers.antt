@@ -1,9 +1,8 @@
 use Rattle.plc_correlate.proofs.Rows.{raised}
-use Rattle.loops.specs.Front.{front, tab, tab-none, tab-more, tab-all, length-tab}
-use Rattle.plc_correlate.specs.Correlation.{correlation}
+use Rattle.loops.specs.Front.{tab, tab-none, tab-more, tab-all, length-tab}
 use lib.Ieee.{nan}
 use mathlib.Core.Path.{◌≡◌, refl, ap, ◌∙◌}
-use Prim.Native.Nat.{◌≤◌, ◌+◌, ◌-◌}
+use Prim.Native.Nat.{◌+◌, ◌-◌}
 use lib.ListN.{length, length-set}
 use borrow.Author.Rules.{rules}
 use borrow.Author.Tests.{le-leb, lt-leb}

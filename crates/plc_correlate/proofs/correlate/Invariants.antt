@@ -1,13 +1,8 @@
-use Rattle.plc_correlate.proofs.Rows.{raised}
-use Rattle.loops.specs.Front.{front, tab, tab-none, tab-more, tab-all, length-tab}
+use Rattle.loops.specs.Front.{front, tab}
 use Rattle.plc_correlate.specs.Correlation.{correlation}
-use lib.Ieee.{nan}
-use mathlib.Core.Path.{◌≡◌, refl, ap, ◌∙◌}
-use Prim.Native.Nat.{◌≤◌, ◌+◌, ◌-◌}
-use lib.ListN.{length, length-set}
-use borrow.Author.Rules.{rules}
-use borrow.Author.Tests.{le-leb, lt-leb}
-use Rattle.loops.specs.Reply.{reply-yes, reply-no}
+use mathlib.Core.Path.{◌≡◌}
+use Prim.Native.Nat.{◌≤◌, ◌-◌}
+use lib.ListN.{length}
 use Rattle.plc_correlate.proofs.correlate.Given as goal
 
 abbrev pub invariant-loop-i : goal.invariant-loop-i

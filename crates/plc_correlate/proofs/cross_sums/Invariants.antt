@@ -1,11 +1,8 @@
 -- After j turns every sum has its first j terms.
-use mathlib.Core.Path.{◌≡◌, refl, ap, ◌∙◌}
+use mathlib.Core.Path.{◌≡◌}
 use Prim.Native.Nat.{◌≤◌, ◌-◌}
-use native.Mathlib.Omega.{arith}
-use lib.ListN.{length, length-drop}
-use borrow.Author.Rules.{rules}
-use Rattle.loops.specs.Front.{length-tab}
-use Rattle.plc_correlate.proofs.Rows.{row, row-none, row_more, to_end}
+use lib.ListN.{length}
+use Rattle.plc_correlate.proofs.Rows.{row}
 use Rattle.plc_correlate.proofs.cross_sums.Given as goal
 
 abbrev pub invariant-loop-j : goal.invariant-loop-j

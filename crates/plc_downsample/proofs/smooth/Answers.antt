@@ -1,8 +1,8 @@
-use Rattle.loops.specs.Front.{front, tab, tab-none, tab-more, tab-all}
-use Rattle.plc_downsample.specs.Downsample.{smoothed_at, smoothed}
+use Rattle.loops.specs.Front.{tab, tab-none, tab-more, tab-all}
+use Rattle.plc_downsample.specs.Downsample.{smoothed}
 use lib.Ieee.{nan}
 use mathlib.Core.Path.{◌≡◌, refl, ap, ◌∙◌}
-use Prim.Native.Nat.{◌≤◌, ◌-◌}
+use Prim.Native.Nat.{◌-◌}
 use lib.ListN.{length, length-set}
 use borrow.Author.Rules.{rules}
 use Rattle.plc_downsample.proofs.smooth.Goals as goal

@@ -1,10 +1,8 @@
-use Rattle.loops.specs.Front.{front, tab, tab-none, tab-more, tab-all}
-use Rattle.plc_downsample.specs.Downsample.{smoothed_at, smoothed}
-use lib.Ieee.{nan}
-use mathlib.Core.Path.{◌≡◌, refl, ap, ◌∙◌}
+use Rattle.loops.specs.Front.{front, tab}
+use Rattle.plc_downsample.specs.Downsample.{smoothed_at}
+use mathlib.Core.Path.{◌≡◌}
 use Prim.Native.Nat.{◌≤◌, ◌-◌}
-use lib.ListN.{length, length-set}
-use borrow.Author.Rules.{rules}
+use lib.ListN.{length}
 use Rattle.plc_downsample.proofs.smooth.Given as goal
 
 abbrev pub invariant-loop-i : goal.invariant-loop-i

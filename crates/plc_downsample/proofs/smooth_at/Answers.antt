@@ -2,7 +2,6 @@ use Rattle.plc_downsample.specs.Downsample.{smoothed_at}
 use Rattle.loops.specs.Pick.{pick_true, pick-false}
 use borrow.Author.Tests.{eq-eqb, ne_eqb}
 use mathlib.Core.Path.{sym}
-use borrow.Author.Rules.{rules}
 use Rattle.plc_downsample.proofs.smooth_at.Goals as goal
 
 pub returns-then-i-eq0 : goal.returns-then-i-eq0

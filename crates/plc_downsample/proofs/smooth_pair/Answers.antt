@@ -1,8 +1,8 @@
 use lib.Ieee.{binary32, add, nan}
-use Rattle.loops.specs.Front.{front, tab, tab-none, tab-more, tab-all}
+use Rattle.loops.specs.Front.{tab, tab-none, tab-more, tab-all}
 use Rattle.plc_downsample.specs.Downsample.{summed_at, smoothed_pair}
 use mathlib.Core.Path.{◌≡◌, refl, ap, ap₂, ◌∙◌}
-use Prim.Native.Nat.{◌≤◌, ◌-◌}
+use Prim.Native.Nat.{◌-◌}
 use lib.ListN.{length, length-set}
 use borrow.Author.Rules.{rules}
 use Rattle.plc_downsample.proofs.smooth_pair.Goals as goal

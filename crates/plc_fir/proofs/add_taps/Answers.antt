@@ -1,10 +1,10 @@
 -- After j rows every sample has its first j taps; inside, the samples passed have one more.
 use mathlib.Core.Path.{◌≡◌, ap, ◌∙◌}
-use Prim.Native.Nat.{◌≤◌, ◌-◌}
+use Prim.Native.Nat.{◌-◌}
 use lib.ListN.{length, get_or, length-set}
 use borrow.Author.Rules.{rules}
 use lib.Ieee.{nan, binary32, add}
-use Rattle.loops.specs.Front.{front, tab, tab-none, tab-more, tab-read, tab-all}
+use Rattle.loops.specs.Front.{tab, tab-none, tab-more, tab-read, tab-all}
 use Rattle.plc_pad.specs.Pad.{tap, taps_row}
 use Rattle.plc_fir.proofs.Taps.{tap_on, tap-none, tap-more}
 use Rattle.plc_fir.proofs.add_taps.Goals as goal

@@ -1,12 +1,10 @@
 -- After j rows every sample has its first j taps; inside, the samples passed have one more.
-use mathlib.Core.Path.{◌≡◌, ap, ◌∙◌}
+use mathlib.Core.Path.{◌≡◌}
 use Prim.Native.Nat.{◌≤◌, ◌-◌}
-use lib.ListN.{length, get_or, length-set}
-use borrow.Author.Rules.{rules}
-use lib.Ieee.{nan, binary32, add}
-use Rattle.loops.specs.Front.{front, tab, tab-none, tab-more, tab-read, tab-all}
-use Rattle.plc_pad.specs.Pad.{tap, taps_row}
-use Rattle.plc_fir.proofs.Taps.{tap_on, tap-none, tap-more}
+use lib.ListN.{length}
+use Rattle.loops.specs.Front.{front, tab}
+use Rattle.plc_pad.specs.Pad.{taps_row}
+use Rattle.plc_fir.proofs.Taps.{tap_on}
 use Rattle.plc_fir.proofs.add_taps.Given as goal
 
 abbrev pub invariant-loop-i : goal.invariant-loop-i

@@ -1,5 +1,4 @@
 -- From place 0 on is all.
-use borrow.Author.Rules.{rules}
 use Rattle.plc_fir.proofs.Firs.{fir_all}
 use Rattle.plc_fir.proofs.celt_fir_inplace.Goals as goal
 

@@ -1,13 +1,13 @@
 -- After i turns the first i outputs stand in buf, and behind the memory in y.
 use mathlib.Core.Path.{refl}
-use Prim.Native.Nat.{◌≤◌, ◌-◌}
+use Prim.Native.Nat.{◌-◌}
 use lib.ListN.{length}
 use borrow.Author.Rules.{rules}
 use borrow.Author.Tests.{le-leb, lt-leb}
 use Rattle.loops.specs.Reply.{reply-yes, reply-no}
 use lib.Ieee.{binary32, of_bits}
 use Rattle.plc_pad.proofs.Taps.{remembers_all}
-use Rattle.plc_iir.proofs.Iirs.{Filtered, filtered-none, filtered-more, filtered-all}
+use Rattle.plc_iir.proofs.Iirs.{filtered-none, filtered-more, filtered-all}
 use Rattle.plc_iir.proofs.celt_iir_inplace.Goals as goal
 
 pub returns-then-n-gt-LONGEST : goal.returns-then-n-gt-LONGEST

@@ -1,6 +1,6 @@
 -- After j turns j taps are taken.
 use mathlib.Core.Path.{◌≡◌, ap, ◌∙◌, sym}
-use Prim.Native.Nat.{◌≤◌, ◌-◌}
+use Prim.Native.Nat.{◌-◌}
 use borrow.Author.Rules.{rules}
 use Rattle.loops.specs.Fold.{fold-none, fold_more}
 use Rattle.plc_pad.specs.Pad.{taps_taken}

@@ -1,8 +1,6 @@
 -- After j turns j taps are taken.
-use mathlib.Core.Path.{◌≡◌, ap, ◌∙◌, sym}
+use mathlib.Core.Path.{◌≡◌}
 use Prim.Native.Nat.{◌≤◌, ◌-◌}
-use borrow.Author.Rules.{rules}
-use Rattle.loops.specs.Fold.{fold-none, fold_more}
 use Rattle.plc_pad.specs.Pad.{taps_taken}
 use Rattle.plc_iir_pair.proofs.pair_taps.Given as goal
 

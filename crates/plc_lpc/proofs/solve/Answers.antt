@@ -1,17 +1,17 @@
 -- Zeros first; then the coefficients and the error after i turns, none of which stopped; at a stop nothing later changes.
 use mathlib.Core.Path.{◌≡◌, ap, ◌∙◌, sym}
 use mathlib.Core.List.{List}
-use Prim.Native.Nat.{◌+◌, ◌≤◌, ◌-◌, ◌/◌}
+use Prim.Native.Nat.{◌+◌, ◌-◌, ◌/◌}
 use native.Mathlib.Omega.{arith}
-use lib.ListN.{length, get_or, length-set, replicate}
+use lib.ListN.{length, get_or, length-set}
 use borrow.Author.Rules.{rules}
-use Rattle.loops.specs.Fold.{fold_to, fold_more, fold-none}
+use Rattle.loops.specs.Fold.{fold_more, fold-none}
 use mathlib.Core.Bool.{true, false}
 use lib.Ieee.{Float, nan, binary32, add, div, neg}
 use Rattle.loops.specs.Pick.{pick_true, pick-false}
-use Rattle.loops.specs.Front.{front, fill_none, fill_more, fill-all}
+use Rattle.loops.specs.Front.{fill_none, fill_more, fill-all}
 use Rattle.buffers.specs.Buffers.{zero32}
-use Rattle.plc_lpc.specs.Lpc.{back_to, crossed, lpc_to, reflection, celt_lpc}
+use Rattle.plc_lpc.specs.Lpc.{back_to, lpc_to, reflection, celt_lpc}
 use Rattle.loops.specs.Sum.{sum-none, sum_more}
 use Rattle.plc_lpc.proofs.Turn.{state, none, more, stopped}
 use Rattle.plc_lpc.proofs.solve.Goals as goal

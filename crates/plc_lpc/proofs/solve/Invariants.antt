@@ -1,19 +1,13 @@
 -- Zeros first; then the coefficients and the error after i turns, none of which stopped; at a stop nothing later changes.
-use mathlib.Core.Path.{◌≡◌, ap, ◌∙◌, sym}
-use mathlib.Core.List.{List}
+use mathlib.Core.Path.{◌≡◌}
 use Prim.Native.Nat.{◌+◌, ◌≤◌, ◌-◌, ◌/◌}
-use native.Mathlib.Omega.{arith}
-use lib.ListN.{length, get_or, length-set, replicate}
-use borrow.Author.Rules.{rules}
-use Rattle.loops.specs.Fold.{fold_to, fold_more, fold-none}
-use mathlib.Core.Bool.{true, false}
-use lib.Ieee.{Float, nan, binary32, add, div, neg}
-use Rattle.loops.specs.Pick.{pick_true, pick-false}
-use Rattle.loops.specs.Front.{front, fill_none, fill_more, fill-all}
+use lib.ListN.{length, replicate}
+use Rattle.loops.specs.Fold.{fold_to}
+use mathlib.Core.Bool.{false}
+use Rattle.loops.specs.Front.{front}
 use Rattle.buffers.specs.Buffers.{zero32}
-use Rattle.plc_lpc.specs.Lpc.{back_to, crossed, lpc_to, reflection, celt_lpc}
-use Rattle.loops.specs.Sum.{sum-none, sum_more}
-use Rattle.plc_lpc.proofs.Turn.{state, none, more, stopped}
+use Rattle.plc_lpc.specs.Lpc.{back_to, crossed, lpc_to}
+use Rattle.plc_lpc.proofs.Turn.{state}
 use Rattle.plc_lpc.proofs.solve.Given as goal
 
 abbrev pub invariant-loop-k : goal.invariant-loop-k

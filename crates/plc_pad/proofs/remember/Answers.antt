@@ -1,11 +1,10 @@
 -- After k turns the first k values are put there.
-use mathlib.Core.Path.{◌≡◌, refl, sym}
-use Prim.Native.Nat.{◌≤◌, ◌-◌}
+use mathlib.Core.Path.{refl, sym}
+use Prim.Native.Nat.{◌-◌}
 use lib.ListN.{length, length-set}
 use borrow.Author.Rules.{rules}
 use Rattle.loops.specs.Fold.{fold-none, fold_more}
 use Rattle.loops.specs.Reply.{reply-yes, reply-no}
-use Rattle.plc_pad.specs.Pad.{remembered_to}
 use Rattle.plc_pad.proofs.Taps.{pad-short, pad-order, pad-takes, remembered-all}
 use Rattle.plc_pad.proofs.remember.Goals as goal
 

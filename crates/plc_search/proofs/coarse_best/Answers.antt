@@ -3,7 +3,6 @@ use mathlib.Core.Path.{refl, sym}
 use native.Mathlib.Omega.{arith}
 use lib.ListN.{replicate}
 use Rattle.buffers.specs.Buffers.{zero32}
-use borrow.Author.Rules.{rules}
 use Rattle.plc_search.proofs.coarse_best.Goals as goal
 
 pub slice_bounds-find_best_pitch-end : goal.slice_bounds-find_best_pitch-end

@@ -1,10 +1,9 @@
-use Rattle.loops.specs.Front.{front, tab, tab-none, tab-more, tab-all}
+use Rattle.loops.specs.Front.{tab-none, tab-more, tab-all}
 use Rattle.plc_search.specs.Search.{every_second}
-use Prim.Native.Nat.{◌*◌}
 use lib.Ieee.{nan}
 use mathlib.Core.Path.{◌≡◌, refl}
-use Prim.Native.Nat.{ℕ, ◌≤◌, ◌-◌}
-use lib.ListN.{length, get_or, length-set}
+use Prim.Native.Nat.{◌-◌}
+use lib.ListN.{length, length-set}
 use borrow.Author.Rules.{rules}
 use Rattle.plc_search.proofs.every_second.Goals as goal
 

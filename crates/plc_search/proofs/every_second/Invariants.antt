@@ -1,11 +1,9 @@
-use Rattle.loops.specs.Front.{front, tab, tab-none, tab-more, tab-all}
-use Rattle.plc_search.specs.Search.{every_second}
+use Rattle.loops.specs.Front.{front, tab}
 use Prim.Native.Nat.{◌*◌}
 use lib.Ieee.{nan}
-use mathlib.Core.Path.{◌≡◌, refl}
+use mathlib.Core.Path.{◌≡◌}
 use Prim.Native.Nat.{ℕ, ◌≤◌, ◌-◌}
-use lib.ListN.{length, get_or, length-set}
-use borrow.Author.Rules.{rules}
+use lib.ListN.{length, get_or}
 use Rattle.plc_search.proofs.every_second.Given as goal
 
 abbrev pub invariant-loop-j : goal.invariant-loop-j

@@ -1,11 +1,8 @@
-use Rattle.loops.specs.Front.{front, tab, tab-none, tab-more, tab-all}
+use Rattle.loops.specs.Front.{front, tab}
 use Rattle.plc_search.specs.Search.{fine_at}
-use Rattle.plc_search.proofs.Near.{fine-at}
-use lib.Ieee.{nan}
-use mathlib.Core.Path.{◌≡◌, refl, ap, ◌∙◌}
+use mathlib.Core.Path.{◌≡◌}
 use Prim.Native.Nat.{◌≤◌, ◌-◌}
-use lib.ListN.{length, length-set}
-use borrow.Author.Rules.{rules}
+use lib.ListN.{length}
 use Rattle.plc_search.proofs.fine_row.Given as goal
 
 abbrev pub invariant-loop-i : goal.invariant-loop-i

@@ -1,7 +1,6 @@
 use Rattle.plc_search.specs.Search.{interpolated}
 use Rattle.loops.specs.Pick.{pick_true, pick-false}
 use mathlib.Core.Path.{◌∙◌, sym}
-use borrow.Author.Rules.{rules}
 use Rattle.plc_search.proofs.interpolate.Goals as goal
 
 pub returns-then-c-a : goal.returns-then-c-a

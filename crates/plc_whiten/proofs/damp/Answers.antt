@@ -1,10 +1,10 @@
 use Rattle.plc_whiten.specs.Whiten.{damping}
 use Rattle.loops.specs.Fold.{fold-none, fold_more}
-use Rattle.loops.specs.Front.{front, tab, tab-none, tab-more, tab-read, tab-all}
+use Rattle.loops.specs.Front.{tab-none, tab-more, tab-read, tab-all}
 use Rattle.plc_whiten.specs.Whiten.{damping_to, damped}
 use lib.Ieee.{nan, binary32, mul}
 use mathlib.Core.Path.{◌≡◌, refl, ap, ◌∙◌, sym}
-use Prim.Native.Nat.{ℕ, ◌+◌, ◌≤◌, ◌<◌, ◌-◌}
+use Prim.Native.Nat.{◌+◌, ◌<◌, ◌-◌}
 use lib.ListN.{length, get_or, length-set}
 use borrow.Author.Rules.{rules}
 use Rattle.plc_whiten.proofs.damp.Goals as goal

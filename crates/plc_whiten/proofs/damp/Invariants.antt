@@ -1,12 +1,9 @@
-use Rattle.plc_whiten.specs.Whiten.{damping}
-use Rattle.loops.specs.Fold.{fold-none, fold_more}
-use Rattle.loops.specs.Front.{front, tab, tab-none, tab-more, tab-read, tab-all}
-use Rattle.plc_whiten.specs.Whiten.{damping_to, damped}
+use Rattle.loops.specs.Front.{front, tab}
+use Rattle.plc_whiten.specs.Whiten.{damping_to}
 use lib.Ieee.{nan, binary32, mul}
-use mathlib.Core.Path.{◌≡◌, refl, ap, ◌∙◌, sym}
-use Prim.Native.Nat.{ℕ, ◌+◌, ◌≤◌, ◌<◌, ◌-◌}
-use lib.ListN.{length, get_or, length-set}
-use borrow.Author.Rules.{rules}
+use mathlib.Core.Path.{◌≡◌}
+use Prim.Native.Nat.{ℕ, ◌+◌, ◌≤◌, ◌-◌}
+use lib.ListN.{length, get_or}
 use Rattle.plc_whiten.proofs.damp.Given as goal
 
 abbrev pub invariant-loop-k : goal.invariant-loop-k

@@ -1,5 +1,4 @@
 use Rattle.plc_whiten.proofs.Steps.{whitening_done}
-use borrow.Author.Rules.{rules}
 use Rattle.plc_whiten.proofs.whitening.Goals as goal
 
 pub returns : goal.returns

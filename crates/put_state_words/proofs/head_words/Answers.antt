@@ -1,5 +1,4 @@
 -- `put_state_words::head_words` meets its contract: word by word.
-use borrow.Author.Rules.{rules}
 use Rattle.put_state_words.proofs.Parts.{head-parts}
 use Rattle.put_state_words.proofs.head_words.Goals as goal
 

@@ -1,11 +1,10 @@
 -- `put_state_words::put_floats` meets its contract: one word after the other.
 use mathlib.Core.Path.{◌≡◌, ap, ◌∙◌}
-use Prim.Native.Nat.{ℕ, ◌-◌, ◌≤◌}
+use Prim.Native.Nat.{◌-◌}
 use native.Mathlib.Omega.{arith}
 use borrow.Author.Rules.{rules}
-use lib.ListN.{length, get_or, length-set}
-use lib.Ieee.{nan, binary32, to_bits}
-use Rattle.loops.specs.Front.{front, tab, tab-none, tab-more, tab-all}
+use lib.ListN.{length, length-set}
+use Rattle.loops.specs.Front.{tab, tab-none, tab-more, tab-all}
 use Rattle.state_words.specs.Words.{float_words}
 use Rattle.put_state_words.proofs.put_floats.Goals as goal
 

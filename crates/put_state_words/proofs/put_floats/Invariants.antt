@@ -1,12 +1,9 @@
 -- `put_state_words::put_floats` meets its contract: one word after the other.
-use mathlib.Core.Path.{◌≡◌, ap, ◌∙◌}
+use mathlib.Core.Path.{◌≡◌}
 use Prim.Native.Nat.{ℕ, ◌-◌, ◌≤◌}
-use native.Mathlib.Omega.{arith}
-use borrow.Author.Rules.{rules}
-use lib.ListN.{length, get_or, length-set}
+use lib.ListN.{length, get_or}
 use lib.Ieee.{nan, binary32, to_bits}
-use Rattle.loops.specs.Front.{front, tab, tab-none, tab-more, tab-all}
-use Rattle.state_words.specs.Words.{float_words}
+use Rattle.loops.specs.Front.{front, tab}
 use Rattle.put_state_words.proofs.put_floats.Given as goal
 
 abbrev pub invariant-loop-k : goal.invariant-loop-k

@@ -1,11 +1,11 @@
 -- `put_state_words::put_words` meets its contract: one word after the other.
 use mathlib.Core.Path.{◌≡◌, ap, ◌∙◌}
-use Prim.Native.Nat.{◌-◌, ◌≤◌}
+use Prim.Native.Nat.{◌-◌}
 use native.Mathlib.Omega.{arith}
 use borrow.Author.Rules.{rules}
 use lib.ListN.{length, take, length-set}
 use lib.Seq.{length-take-le, take-length}
-use Rattle.loops.specs.Front.{front, copy-none, copy_more, front-all}
+use Rattle.loops.specs.Front.{copy-none, copy_more, front-all}
 use Rattle.put_state_words.proofs.put_words.Goals as goal
 
 pub loop-k-init : goal.loop-k-init

@@ -1,11 +1,8 @@
 -- `put_state_words::put_words` meets its contract: one word after the other.
-use mathlib.Core.Path.{◌≡◌, ap, ◌∙◌}
+use mathlib.Core.Path.{◌≡◌}
 use Prim.Native.Nat.{◌-◌, ◌≤◌}
-use native.Mathlib.Omega.{arith}
-use borrow.Author.Rules.{rules}
-use lib.ListN.{length, take, length-set}
-use lib.Seq.{length-take-le, take-length}
-use Rattle.loops.specs.Front.{front, copy-none, copy_more, front-all}
+use lib.ListN.{length, take}
+use Rattle.loops.specs.Front.{front}
 use Rattle.put_state_words.proofs.put_words.Given as goal
 
 abbrev pub invariant-loop-k : goal.invariant-loop-k

@@ -1,6 +1,5 @@
 -- `words::put_word` meets its contract: its four digits to the base 256.
 use native.Mathlib.Omega.{arith}
-use borrow.Author.Rules.{rules}
 use lib.ListN.{length-set}
 use Rattle.words.proofs.Laws.{put-word_law}
 use Rattle.put_words.proofs.put_word.Goals as goal

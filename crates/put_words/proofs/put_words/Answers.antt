@@ -1,10 +1,9 @@
 -- `words::put_words` meets its contract: one word after the other.
 use mathlib.Core.Path.{◌≡◌, refl, ap, ◌∙◌}
-use Prim.Native.Nat.{ℕ, ◌*◌, ◌-◌, ◌≤◌}
+use Prim.Native.Nat.{◌-◌}
 use native.Mathlib.Omega.{arith}
 use borrow.Author.Rules.{rules}
-use lib.ListN.{length, get_or}
-use Rattle.loops.specs.Front.{front}
+use lib.ListN.{length}
 use Rattle.words.specs.Bytes.{bytes_by}
 use Rattle.words.proofs.Laws.{bytes-none, bytes-more, bytes-all}
 use Rattle.put_words.proofs.put_words.Goals as goal

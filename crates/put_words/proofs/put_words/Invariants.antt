@@ -1,12 +1,9 @@
 -- `words::put_words` meets its contract: one word after the other.
-use mathlib.Core.Path.{◌≡◌, refl, ap, ◌∙◌}
+use mathlib.Core.Path.{◌≡◌}
 use Prim.Native.Nat.{ℕ, ◌*◌, ◌-◌, ◌≤◌}
-use native.Mathlib.Omega.{arith}
-use borrow.Author.Rules.{rules}
 use lib.ListN.{length, get_or}
 use Rattle.loops.specs.Front.{front}
 use Rattle.words.specs.Bytes.{bytes_by}
-use Rattle.words.proofs.Laws.{bytes-none, bytes-more, bytes-all}
 use Rattle.put_words.proofs.put_words.Given as goal
 
 abbrev pub invariant-loop-i : goal.invariant-loop-i

@@ -1,11 +1,10 @@
 -- `record::first_words` meets its contract: one word after the other.
-use mathlib.Core.Path.{◌≡◌, ap, ◌∙◌}
-use Prim.Native.Nat.{◌-◌, ◌≤◌}
+use mathlib.Core.Path.{ap, ◌∙◌}
+use Prim.Native.Nat.{◌-◌}
 use native.Mathlib.Omega.{arith}
 use borrow.Author.Rules.{rules}
-use lib.ListN.{length, length-set}
-use Rattle.loops.specs.Front.{front, tab, tab-none, tab-more, tab-all}
-use Rattle.state_words.specs.Words.{state_length}
+use lib.ListN.{length-set}
+use Rattle.loops.specs.Front.{tab, tab-none, tab-more, tab-all}
 use Rattle.words.specs.Bytes.{word_at}
 use Rattle.record.proofs.first_words.Goals as goal
 

@@ -1,6 +1,5 @@
 -- `record::read_state` meets its contract: its words read as a state.
 use mathlib.Core.Path.{ap, ◌∙◌}
-use borrow.Author.Rules.{rules}
 use Rattle.loops.specs.Front.{get_or-tab}
 use Rattle.state_words.specs.Words.{state_length, state_in}
 use Rattle.state_words.proofs.Parts.{state-same}

@@ -1,7 +1,6 @@
 -- `ref_decode::conceal_by_noise` meets its contract: what the path made, and then the finish.
 use Rattle.finish.proofs.End.{accepted_state}
 use Rattle.ref_decode.proofs.Entry.{noise_left}
-use borrow.Author.Rules.{rules}
 use Rattle.ref_decode.proofs.conceal_by_noise.Goals as goal
 
 pub noise_made-made-requires : goal.noise_made-made-requires

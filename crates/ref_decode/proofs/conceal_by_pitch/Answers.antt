@@ -1,7 +1,6 @@
 -- `ref_decode::conceal_by_pitch` meets its contract: what the path made, and then the finish.
 use Rattle.finish.proofs.End.{accepted_state}
 use Rattle.ref_decode.proofs.Entry.{pitch_left}
-use borrow.Author.Rules.{rules}
 use Rattle.ref_decode.proofs.conceal_by_pitch.Goals as goal
 
 pub pitch_made-made-requires : goal.pitch_made-made-requires

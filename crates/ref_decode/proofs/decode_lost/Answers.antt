@@ -1,8 +1,7 @@
 -- `ref_decode::decode_lost` meets its contract: refused by the first number that applies, else by noise or by pitch.
-use mathlib.Core.Path.{◌≡◌, ◌∙◌, sym}
+use mathlib.Core.Path.{◌∙◌, sym}
 use Rattle.finish.proofs.End.{refused-is}
 use Rattle.ref_decode.proofs.Entry.{accepted_left, refused-left}
-use borrow.Author.Rules.{rules}
 use Rattle.ref_decode.proofs.decode_lost.Goals as goal
 
 pub returns-then-value-ne0 : goal.returns-then-value-ne0

@@ -1,9 +1,8 @@
-use mathlib.Core.Path.{◌≡◌}
-use Prim.Native.Nat.{ℕ, ◌+◌, ◌≤◌, ◌-◌}
-use lib.ListN.{length, get_or, length-set}
+use Prim.Native.Nat.{ℕ, ◌+◌, ◌-◌}
+use lib.ListN.{get_or, length-set}
 use borrow.Author.Rules.{rules}
 use lib.Ieee.{Float, nan}
-use Rattle.loops.specs.Front.{front, tab, length-tab, tab-none, tab-more}
+use Rattle.loops.specs.Front.{length-tab, tab-none, tab-more}
 use Rattle.roll.proofs.Laws.{front-later, moved-is}
 use Rattle.roll.proofs.move_back.Goals as goal
 

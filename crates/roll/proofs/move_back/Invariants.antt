@@ -1,10 +1,8 @@
 use mathlib.Core.Path.{◌≡◌}
 use Prim.Native.Nat.{ℕ, ◌+◌, ◌≤◌, ◌-◌}
-use lib.ListN.{length, get_or, length-set}
-use borrow.Author.Rules.{rules}
-use lib.Ieee.{Float, nan}
-use Rattle.loops.specs.Front.{front, tab, length-tab, tab-none, tab-more}
-use Rattle.roll.proofs.Laws.{front-later, moved-is}
+use lib.ListN.{length, get_or}
+use lib.Ieee.{nan}
+use Rattle.loops.specs.Front.{front, tab}
 use Rattle.roll.proofs.move_back.Given as goal
 
 abbrev pub invariant-loop-i : goal.invariant-loop-i

@@ -1,7 +1,6 @@
 -- `sizes::frame_size` meets its contract.
 use native.Mathlib.Omega.{arith}
 use Rattle.settings.proofs.Passed.{factor-most}
-use borrow.Author.Rules.{rules}
 use Rattle.sizes.proofs.frame_size.Goals as goal
 
 pub overflow_mul-result : goal.overflow_mul-result

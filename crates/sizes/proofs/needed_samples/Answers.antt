@@ -4,7 +4,6 @@ use mathlib.Core.Bool.{false}
 use native.Mathlib.Omega.{arith}
 use lib.Dec.{eqb}
 use Rattle.settings.proofs.Passed.{good, downsample_low, needed-code, needed-most}
-use borrow.Author.Rules.{rules}
 use Rattle.settings.specs.Settings.{check_settings, needed}
 use Rattle.sizes.proofs.needed_samples.Goals as goal
 

@@ -1,5 +1,4 @@
 -- `state_words::filter_in` meets its contract: word by word.
-use borrow.Author.Rules.{rules}
 use Rattle.state_words.proofs.Parts.{filter_parts}
 use Rattle.state_words.proofs.filter_in.Goals as goal
 

@@ -1,12 +1,10 @@
 -- `state_words::floats_in` meets its contract: one float after the other.
 use mathlib.Core.Path.{◌≡◌}
 use Prim.Native.Nat.{ℕ, ◌+◌, ◌-◌, ◌≤◌}
-use native.Mathlib.Omega.{arith}
-use borrow.Author.Rules.{rules}
-use lib.ListN.{length, length-set}
-use lib.Ieee.{nan, binary32, of_bits}
-use Rattle.loops.specs.Front.{front, tab, tab-none, tab-more, tab-all}
-use Rattle.state_words.specs.Words.{state_length, word_in, floats_by}
+use lib.ListN.{length}
+use lib.Ieee.{binary32, of_bits}
+use Rattle.loops.specs.Front.{front, tab}
+use Rattle.state_words.specs.Words.{state_length, word_in}
 use Rattle.state_words.proofs.floats_in.Given as goal
 
 abbrev pub invariant-loop-k : goal.invariant-loop-k

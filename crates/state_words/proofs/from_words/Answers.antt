@@ -1,5 +1,4 @@
 -- `state_words::from_words` meets its contract: field by field.
-use borrow.Author.Rules.{rules}
 use Rattle.state_words.proofs.Parts.{state-parts}
 use Rattle.state_words.proofs.from_words.Goals as goal
 

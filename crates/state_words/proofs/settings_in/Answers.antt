@@ -1,6 +1,5 @@
 -- `state_words::settings_in` meets its contract: word by word.
 use mathlib.Core.Path.{refl}
-use borrow.Author.Rules.{rules}
 use Rattle.state_words.specs.Words.{settings_by}
 use Rattle.state_words.proofs.settings_in.Goals as goal
 

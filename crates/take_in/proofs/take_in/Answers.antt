@@ -1,8 +1,6 @@
 use mathlib.Core.Path.{◌≡◌, refl, sym, ◌∙◌}
 use mathlib.Core.Bool.{true}
 use lib.ListN.{length}
-use borrow.Author.Rules.{rules}
-use borrow.Author.Tests.{not-true, not-false}
 use Rattle.loops.specs.Reply.{reply-yes, reply-no}
 use Rattle.take_in.specs.TakeIn.{tail_takes}
 use Rattle.take_in.proofs.Frame.{takes-fits}

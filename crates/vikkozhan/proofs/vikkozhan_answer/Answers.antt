@@ -1,5 +1,4 @@
 -- `vikkozhan::vikkozhan_answer` meets its contract: it is `answer_record`'s.
-use borrow.Author.Rules.{rules}
 use Rattle.vikkozhan.proofs.vikkozhan_answer.Goals as goal
 
 pub returns : goal.returns

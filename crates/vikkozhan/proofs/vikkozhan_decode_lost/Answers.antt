@@ -1,5 +1,4 @@
 -- `vikkozhan::vikkozhan_decode_lost` meets its contract: it is that of `direct::decode_lost`.
-use borrow.Author.Rules.{rules}
 use Rattle.vikkozhan.proofs.vikkozhan_decode_lost.Goals as goal
 
 pub returns : goal.returns

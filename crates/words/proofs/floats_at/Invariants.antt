@@ -1,15 +1,12 @@
 -- `words::floats_at` meets its contract: one float after the other.
-use mathlib.Core.Path.{◌≡◌, ap, ◌∙◌}
+use mathlib.Core.Path.{◌≡◌}
 use mathlib.Core.Bool.{cond}
 use Prim.Native.Nat.{ℕ, ◌+◌, ◌-◌, ◌≤◌}
-use native.Mathlib.Omega.{arith}
-use borrow.Author.Rules.{rules}
 use lib.Dec.{leb}
-use lib.ListN.{length, length-set}
-use Rattle.loops.specs.Front.{front, tab, tab-none, tab-more, tab-all}
-use lib.Ieee.{nan, binary32, of_bits}
-use Rattle.words.specs.Bytes.{word_at, floats_at}
-use Rattle.words.proofs.Laws.{capped_same, capped_le}
+use lib.ListN.{length}
+use Rattle.loops.specs.Front.{front, tab}
+use lib.Ieee.{binary32, of_bits}
+use Rattle.words.specs.Bytes.{word_at}
 use Rattle.words.proofs.floats_at.Given as goal
 
 abbrev pub invariant-loop-k : goal.invariant-loop-k

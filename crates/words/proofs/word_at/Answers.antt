@@ -1,7 +1,6 @@
 -- `words::word_at` meets its contract: four bytes make a word.
 use mathlib.Core.Path.{sym, ◌∙◌}
 use native.Mathlib.Omega.{arith}
-use borrow.Author.Rules.{rules}
 use Rattle.words.proofs.Laws.{word-past, word_in}
 use Rattle.words.proofs.word_at.Goals as goal
 

@@ -1,12 +1,11 @@
 -- `imdct::add_terms` meets its contract: the sums before j have their term, the others stand as they were.
 use mathlib.Core.Path.{◌≡◌, ap, ◌∙◌, sym, subst}
-use mathlib.Core.List.{List}
-use Prim.Native.Nat.{ℕ, ◌≤◌, ◌<◌, ◌-◌}
+use Prim.Native.Nat.{◌≤◌, ◌<◌, ◌-◌}
 use native.Mathlib.Nat.{le_antisymm}
 use lib.ListN.{length, get_or}
 use lib.Dec.{lit≤}
-use lib.Ieee.{Float, nan, binary64, add, mul}
-use Rattle.loops.specs.Front.{front, tab, tab-none, tab-read, tab-more, tab-all}
+use lib.Ieee.{nan, binary64, add, mul}
+use Rattle.loops.specs.Front.{tab, tab-none, tab-read, tab-more, tab-all}
 use Rattle.mdct.proofs.Lanes.{bytes_fit, next_fits, next_le, fewer, place-bytes}
 use Rattle.mdct.proofs.imdct.add_terms.Invariants.{summed}
 use Rattle.mdct.proofs.imdct.add_terms.Goals as goal

@@ -1,13 +1,10 @@
 -- `imdct::add_terms` meets its contract: the sums before j have their term, the others stand as they were.
-use mathlib.Core.Path.{◌≡◌, ap, ◌∙◌, sym, subst}
+use mathlib.Core.Path.{◌≡◌}
 use mathlib.Core.List.{List}
-use Prim.Native.Nat.{ℕ, ◌≤◌, ◌<◌, ◌-◌}
-use native.Mathlib.Nat.{le_antisymm}
-use lib.ListN.{length, get_or}
-use lib.Dec.{lit≤}
+use Prim.Native.Nat.{ℕ, ◌≤◌, ◌-◌}
+use lib.ListN.{get_or}
 use lib.Ieee.{Float, nan, binary64, add, mul}
-use Rattle.loops.specs.Front.{front, tab, tab-none, tab-read, tab-more, tab-all}
-use Rattle.mdct.proofs.Lanes.{bytes_fit, next_fits, next_le, fewer, place-bytes}
+use Rattle.loops.specs.Front.{front, tab}
 use Rattle.mdct.proofs.imdct.add_terms.Given as goal
 
 -- the next sum of output j

@@ -1,12 +1,12 @@
 -- `imdct::along` meets its contract: the entries before j are in place.
 use mathlib.Core.Path.{◌≡◌, refl, ap, ◌∙◌}
-use Prim.Native.Nat.{ℕ, ◌+◌, ◌*◌, ◌%◌, ◌≤◌, ◌<◌, ◌-◌}
+use Prim.Native.Nat.{◌*◌, ◌≤◌, ◌<◌, ◌-◌}
 use native.Mathlib.Omega.{arith}
-use lib.ListN.{length, length-set}
+use lib.ListN.{length-set}
 use lib.Dec.{lit≤}
 use borrow.Author.Rules.{rules}
 use native.Mathlib.Nat.{le_antisymm, mul-le-mul}
-use Rattle.loops.specs.Front.{front, tab, tab-none, tab-more, tab-all}
+use Rattle.loops.specs.Front.{tab, tab-none, tab-more, tab-all}
 use Rattle.mdct.proofs.Lanes.{bytes_fit, next_fits, next_le, fewer, in-length}
 use Rattle.mdct.proofs.imdct.along.Goals as goal
 

@@ -1,13 +1,8 @@
 -- `imdct::along` meets its contract: the entries before j are in place.
-use mathlib.Core.Path.{◌≡◌, refl, ap, ◌∙◌}
-use Prim.Native.Nat.{ℕ, ◌+◌, ◌*◌, ◌%◌, ◌≤◌, ◌<◌, ◌-◌}
-use native.Mathlib.Omega.{arith}
-use lib.ListN.{length, length-set}
-use lib.Dec.{lit≤}
-use borrow.Author.Rules.{rules}
-use native.Mathlib.Nat.{le_antisymm, mul-le-mul}
-use Rattle.loops.specs.Front.{front, tab, tab-none, tab-more, tab-all}
-use Rattle.mdct.proofs.Lanes.{bytes_fit, next_fits, next_le, fewer, in-length}
+use mathlib.Core.Path.{◌≡◌}
+use Prim.Native.Nat.{ℕ, ◌+◌, ◌*◌, ◌%◌, ◌≤◌, ◌-◌}
+use lib.ListN.{length}
+use Rattle.loops.specs.Front.{front, tab}
 use Rattle.mdct.proofs.imdct.along.Given as goal
 
 abbrev pub invariant-loop-j : goal.invariant-loop-j

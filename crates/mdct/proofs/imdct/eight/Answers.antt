@@ -8,7 +8,7 @@ use lib.Dec.{lit≤}
 use Rattle.loops.specs.Front.{tab, length-tab}
 use Rattle.mdct.specs.Imdct.{imdct_sum}
 use Rattle.cosine_circle.proofs.Sizes.{Size, sized, at_most}
-use Rattle.mdct.proofs.Lanes.{next_fits, next_le, fewer, places, sums, places-none, places-on, places-less, places-more, sums_none, sums-more}
+use Rattle.mdct.proofs.Lanes.{next_fits, next_le, fewer, sums, places-none, places-on, places-less, places-more, sums_none, sums-more}
 use Rattle.mdct.proofs.Lanes.{around-fits, twice-fits, odd-fits, step_fits, step-along, first_fits, first-along, input_fits}
 use Rattle.mdct.proofs.imdct.eight.Goals as goal
 

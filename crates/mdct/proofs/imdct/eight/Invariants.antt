@@ -1,15 +1,8 @@
 -- `imdct::eight` meets its contract. With each input every output moves to its next place on the circle, and its sum gets one more term.
-use mathlib.Core.Path.{◌≡◌, ap, ◌∙◌}
-use Prim.Native.Nat.{ℕ, ◌*◌, ◌≤◌, ◌-◌, zero-le}
-use native.Mathlib.Omega.{arith}
-use native.Mathlib.Nat.{le_antisymm}
-use lib.ListN.{length}
-use lib.Dec.{lit≤}
-use Rattle.loops.specs.Front.{tab, length-tab}
-use Rattle.mdct.specs.Imdct.{imdct_sum}
-use Rattle.cosine_circle.proofs.Sizes.{Size, sized, at_most}
-use Rattle.mdct.proofs.Lanes.{next_fits, next_le, fewer, places, sums, places-none, places-on, places-less, places-more, sums_none, sums-more}
-use Rattle.mdct.proofs.Lanes.{around-fits, twice-fits, odd-fits, step_fits, step-along, first_fits, first-along, input_fits}
+use mathlib.Core.Path.{◌≡◌}
+use Prim.Native.Nat.{◌≤◌, ◌-◌}
+use Rattle.loops.specs.Front.{tab}
+use Rattle.mdct.proofs.Lanes.{places, sums}
 use Rattle.mdct.proofs.imdct.eight.Given as goal
 
 abbrev pub invariant-loop-k : goal.invariant-loop-k

@@ -1,16 +1,11 @@
 -- `imdct::halves` meets its contract: the outputs from t to t + j are written.
-use mathlib.Core.Path.{◌≡◌, refl, ap, ◌∙◌}
+use mathlib.Core.Path.{◌≡◌}
 use mathlib.Core.List.{◌++◌}
 use Prim.Native.Nat.{ℕ, ◌+◌, ◌≤◌, ◌-◌}
-use lib.ListN.{length, get_or, take, length-set}
-use lib.Dec.{lit≤}
-use native.Mathlib.Nat.{le_antisymm}
-use borrow.Author.Rules.{scaled_Fits}
+use lib.ListN.{length, get_or, take}
 use lib.Ieee.{nan}
 use Rattle.loops.specs.Front.{front, tab}
 use Rattle.mdct.specs.Imdct.{half_of}
-use Rattle.mdct.proofs.Fronts.{rest-none, rest_more}
-use Rattle.mdct.proofs.Lanes.{bytes_fit, next_fits, next_le, fewer, in-length, run_in, run_fits}
 use Rattle.mdct.proofs.imdct.halves.Given as goal
 
 abbrev pub invariant-loop-j : goal.invariant-loop-j

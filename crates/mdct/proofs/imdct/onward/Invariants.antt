@@ -1,12 +1,9 @@
 -- `imdct::onward` meets its contract: the places before j are a step on, the others stand as they were.
-use mathlib.Core.Path.{◌≡◌, ap, ◌∙◌, sym, subst}
+use mathlib.Core.Path.{◌≡◌}
 use mathlib.Core.List.{List}
-use Prim.Native.Nat.{ℕ, ◌+◌, ◌%◌, ◌≤◌, ◌<◌, ◌-◌}
-use native.Mathlib.Nat.{le_antisymm}
-use lib.ListN.{length, get_or}
-use lib.Dec.{lit≤}
-use Rattle.loops.specs.Front.{front, tab, tab-none, tab-read, tab-more, tab-all}
-use Rattle.mdct.proofs.Lanes.{bytes_fit, next_fits, next_le, fewer, onward-fits, two-less}
+use Prim.Native.Nat.{ℕ, ◌+◌, ◌%◌, ◌≤◌, ◌-◌}
+use lib.ListN.{get_or}
+use Rattle.loops.specs.Front.{front, tab}
 use Rattle.mdct.proofs.imdct.onward.Given as goal
 
 -- the next place of output j

@@ -7,7 +7,7 @@ use lib.ListN.{length, get_or}
 use borrow.Author.Rules.{rules}
 use native.Mathlib.Nat.{add-mul, mul-le-mul}
 use lib.Ieee.{Float, nan}
-use Rattle.loops.specs.Front.{front, tab, tab-none, tab-all, get_or-tab}
+use Rattle.loops.specs.Front.{tab, tab-none, tab-all, get_or-tab}
 use mathlib.Core.Bool.{true}
 use Rattle.cosine_circle.specs.Circle.{is_frame_size}
 use Rattle.cosine_circle.proofs.Sizes.{Size, sized, at_most, next_eight}

@@ -1,17 +1,11 @@
 -- `frame::fill_sums` meets its contract: the first t sums are in place, t being a multiple of 8, and t times n products were made for them.
-use mathlib.Core.Path.{◌≡◌, refl, ap, ◌∙◌, sym, ap₂}
+use mathlib.Core.Path.{◌≡◌}
 use mathlib.Core.List.{List}
-use Prim.Native.Nat.{ℕ, ◌+◌, ◌≤◌, ◌<◌, ◌-◌, ◌*◌, ◌/◌, ◌%◌, ◌^◌}
-use native.Mathlib.Omega.{arith}
-use lib.ListN.{length, get_or}
-use borrow.Author.Rules.{rules}
-use native.Mathlib.Nat.{add-mul, mul-le-mul}
-use lib.Ieee.{Float, nan}
-use Rattle.loops.specs.Front.{front, tab, tab-none, tab-all, get_or-tab}
-use Rattle.cosine_circle.proofs.Sizes.{Size, sized, at_most, next_eight}
+use Prim.Native.Nat.{ℕ, ◌+◌, ◌≤◌, ◌-◌, ◌*◌, ◌/◌, ◌%◌}
+use lib.ListN.{length}
+use lib.Ieee.{Float}
+use Rattle.loops.specs.Front.{front, tab}
 use Rattle.mdct.specs.Imdct.{imdct_sum}
-use Rattle.mdct.proofs.Fronts.{rest_all}
-use Rattle.mdct_work.proofs.Works.{pair_values, pair-products}
 use Rattle.mdct_pairs.proofs.frame.fill_sums.Given as goal
 
 -- sum j of the frame

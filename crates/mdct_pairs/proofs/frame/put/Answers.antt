@@ -1,9 +1,9 @@
 -- `frame::put` meets its contract: the sums from t to t + j are in place.
 use mathlib.Core.Path.{◌≡◌, refl, ap, ◌∙◌}
 use mathlib.Core.List.{◌++◌}
-use Prim.Native.Nat.{ℕ, ◌+◌, ◌≤◌, ◌-◌}
+use Prim.Native.Nat.{ℕ, ◌+◌, ◌-◌}
 use native.Mathlib.Omega.{arith}
-use lib.ListN.{length, get_or, take, length-set}
+use lib.ListN.{get_or, take, length-set}
 use borrow.Author.Rules.{rules}
 use lib.Ieee.{nan}
 use Rattle.loops.specs.Front.{front, tab}

@@ -1,13 +1,10 @@
 -- `frame::put` meets its contract: the sums from t to t + j are in place.
-use mathlib.Core.Path.{◌≡◌, refl, ap, ◌∙◌}
+use mathlib.Core.Path.{◌≡◌}
 use mathlib.Core.List.{◌++◌}
 use Prim.Native.Nat.{ℕ, ◌+◌, ◌≤◌, ◌-◌}
-use native.Mathlib.Omega.{arith}
-use lib.ListN.{length, get_or, take, length-set}
-use borrow.Author.Rules.{rules}
+use lib.ListN.{length, get_or, take}
 use lib.Ieee.{nan}
 use Rattle.loops.specs.Front.{front, tab}
-use Rattle.mdct.proofs.Fronts.{rest-none, rest_more}
 use Rattle.mdct_pairs.proofs.frame.put.Given as goal
 
 abbrev pub invariant-loop-j : goal.invariant-loop-j

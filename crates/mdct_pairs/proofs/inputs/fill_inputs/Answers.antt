@@ -1,10 +1,10 @@
 -- `inputs::fill_inputs` meets its contract: the places before i are filled.
 use mathlib.Core.Path.{◌≡◌, ap, ◌∙◌}
-use Prim.Native.Nat.{◌≤◌, ◌-◌}
+use Prim.Native.Nat.{◌-◌}
 use native.Mathlib.Omega.{arith}
 use lib.ListN.{length, length-set}
 use borrow.Author.Rules.{rules}
-use Rattle.loops.specs.Front.{front, tab, tab-none, tab-more, tab-all}
+use Rattle.loops.specs.Front.{tab, tab-none, tab-more, tab-all}
 use lib.Ieee.{nan}
 use Rattle.mdct_pairs.specs.Inputs.{input_at, inputs_of}
 use Rattle.mdct_pairs.proofs.inputs.fill_inputs.Goals as goal

@@ -1,12 +1,9 @@
 -- `inputs::fill_inputs` meets its contract: the places before i are filled.
-use mathlib.Core.Path.{◌≡◌, ap, ◌∙◌}
+use mathlib.Core.Path.{◌≡◌}
 use Prim.Native.Nat.{◌≤◌, ◌-◌}
-use native.Mathlib.Omega.{arith}
-use lib.ListN.{length, length-set}
-use borrow.Author.Rules.{rules}
-use Rattle.loops.specs.Front.{front, tab, tab-none, tab-more, tab-all}
-use lib.Ieee.{nan}
-use Rattle.mdct_pairs.specs.Inputs.{input_at, inputs_of}
+use lib.ListN.{length}
+use Rattle.loops.specs.Front.{front, tab}
+use Rattle.mdct_pairs.specs.Inputs.{input_at}
 use Rattle.mdct_pairs.proofs.inputs.fill_inputs.Given as goal
 
 abbrev pub invariant-loop-i : goal.invariant-loop-i

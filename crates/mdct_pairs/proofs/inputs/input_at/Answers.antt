@@ -1,6 +1,5 @@
 -- `inputs::input_at` meets its contract: the sign by i modulo 4.
 use mathlib.Core.Path.{ap}
-use borrow.Author.Rules.{rules}
 use lib.Ieee.{neg}
 use borrow.Author.Tests.{eq-eqb, ne_eqb}
 use Rattle.mdct_pairs.specs.Inputs.{input_at}

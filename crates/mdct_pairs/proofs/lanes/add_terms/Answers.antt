@@ -5,11 +5,10 @@ use Prim.Native.Nat.{ℕ, ◌+◌, ◌≤◌, ◌<◌, ◌-◌, ◌*◌, ◌/◌
 use native.Mathlib.Omega.{arith}
 use lib.ListN.{length, get_or}
 use borrow.Author.Rules.{rules}
-use Rattle.loops.specs.Front.{front, tab, tab-none, tab-read, tab-more, tab-all}
-use lib.Ieee.{Float, nan, binary64, add, mul}
+use Rattle.loops.specs.Front.{tab, tab-none, tab-read, tab-more, tab-all}
+use lib.Ieee.{nan, binary64, add, mul}
 use mir.Syntax.{w64}
 use mir.Val.{Fits}
-use Rattle.mdct_pairs.proofs.lanes.add_terms.Invariants.{summed}
 use Rattle.mdct_pairs.proofs.lanes.add_terms.Goals as goal
 
 -- where sum e reads its cosine

@@ -1,14 +1,10 @@
 -- `lanes::add_terms` meets its contract: the sums before e have their term, the others stand as they were.
-use mathlib.Core.Path.{◌≡◌, ap, ◌∙◌, sym}
+use mathlib.Core.Path.{◌≡◌}
 use mathlib.Core.List.{List}
-use Prim.Native.Nat.{ℕ, ◌+◌, ◌≤◌, ◌<◌, ◌-◌, ◌*◌, ◌/◌, ◌%◌}
-use native.Mathlib.Omega.{arith}
-use lib.ListN.{length, get_or}
-use borrow.Author.Rules.{rules}
-use Rattle.loops.specs.Front.{front, tab, tab-none, tab-read, tab-more, tab-all}
+use Prim.Native.Nat.{ℕ, ◌+◌, ◌≤◌, ◌-◌, ◌/◌, ◌%◌}
+use lib.ListN.{get_or}
+use Rattle.loops.specs.Front.{front, tab}
 use lib.Ieee.{Float, nan, binary64, add, mul}
-use mir.Syntax.{w64}
-use mir.Val.{Fits}
 use Rattle.mdct_pairs.proofs.lanes.add_terms.Given as goal
 
 -- the next sum e

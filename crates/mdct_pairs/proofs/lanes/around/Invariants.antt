@@ -1,10 +1,8 @@
 -- `lanes::around` meets its contract: the places before j are in the circle, the others stand as they were.
-use mathlib.Core.Path.{◌≡◌, ap, ◌∙◌, sym}
-use Prim.Native.Nat.{ℕ, ◌≤◌, ◌<◌, ◌-◌, ◌%◌}
-use native.Mathlib.Omega.{arith}
-use lib.ListN.{length, get_or, length-set}
-use borrow.Author.Rules.{rules}
-use Rattle.loops.specs.Front.{front, tab, tab-none, tab-read, tab-more, tab-all}
+use mathlib.Core.Path.{◌≡◌}
+use Prim.Native.Nat.{ℕ, ◌≤◌, ◌-◌, ◌%◌}
+use lib.ListN.{length, get_or}
+use Rattle.loops.specs.Front.{front, tab}
 use Rattle.mdct_pairs.proofs.lanes.around.Given as goal
 
 abbrev pub invariant-loop-j : goal.invariant-loop-j

@@ -1,10 +1,8 @@
 -- `lanes::first_places` meets its contract: the entries before j are in place.
-use mathlib.Core.Path.{◌≡◌, refl, ap, ◌∙◌}
+use mathlib.Core.Path.{◌≡◌}
 use Prim.Native.Nat.{ℕ, ◌+◌, ◌≤◌, ◌-◌, ◌*◌}
-use native.Mathlib.Omega.{arith}
-use lib.ListN.{length, length-set}
-use borrow.Author.Rules.{rules}
-use Rattle.loops.specs.Front.{front, tab, tab-none, tab-more, tab-all}
+use lib.ListN.{length}
+use Rattle.loops.specs.Front.{front, tab}
 use Rattle.mdct_pairs.proofs.lanes.first_places.Given as goal
 
 abbrev pub invariant-loop-j : goal.invariant-loop-j

@@ -1,12 +1,11 @@
 -- `lanes::four` meets its contract. With two inputs every lane goes two steps on and is taken back into the circle, and each sum gets two terms more.
 use mathlib.Core.Path.{◌≡◌, refl, ap, ◌∙◌}
-use mathlib.Core.List.{List}
 use Prim.Native.Nat.{ℕ, ◌+◌, ◌≤◌, ◌<◌, ◌-◌, ◌*◌, ◌/◌, ◌%◌, zero-le}
 use native.Mathlib.Omega.{arith}
 use lib.ListN.{length}
 use Rattle.loops.specs.Front.{tab}
 use Rattle.mdct.specs.Imdct.{imdct_sum}
-use Rattle.cosine_circle.proofs.Sizes.{Size, sized, even, at_most}
+use Rattle.cosine_circle.proofs.Sizes.{sized, even}
 use Rattle.mdct.proofs.Lanes.{fewer, next_le}
 use Rattle.mdct_pairs.proofs.PairLanes.{places, sums, sums_none, places-none}
 use Rattle.mdct_pairs.proofs.Two.{few, short-step, Turn, turns-few, pairs-in, inputs-in, sums-count, reads, count, small, sums-1-count, reads-1, count-1, small-1, sums-2, count-2, small-2, lanes-3}

@@ -1,12 +1,11 @@
 -- `lanes::onward` meets its contract: the places before j are a step on, the others stand as they were.
 use mathlib.Core.Path.{◌≡◌, ap, ◌∙◌, sym}
 use mathlib.Core.List.{List}
-use Prim.Native.Nat.{ℕ, ◌+◌, ◌≤◌, ◌<◌, ◌-◌, ◌*◌}
+use Prim.Native.Nat.{ℕ, ◌+◌, ◌<◌, ◌-◌, ◌*◌}
 use native.Mathlib.Omega.{arith}
 use lib.ListN.{length, get_or, length-set}
 use borrow.Author.Rules.{rules}
 use Rattle.loops.specs.Front.{front, tab, tab-none, tab-read, tab-more, tab-all}
-use Rattle.mdct_pairs.proofs.lanes.onward.Invariants.{moved}
 use Rattle.mdct_pairs.proofs.lanes.onward.Goals as goal
 
 -- a place that is still to come stands as it did

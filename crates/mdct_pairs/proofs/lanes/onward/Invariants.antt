@@ -1,11 +1,9 @@
 -- `lanes::onward` meets its contract: the places before j are a step on, the others stand as they were.
-use mathlib.Core.Path.{◌≡◌, ap, ◌∙◌, sym}
+use mathlib.Core.Path.{◌≡◌}
 use mathlib.Core.List.{List}
-use Prim.Native.Nat.{ℕ, ◌+◌, ◌≤◌, ◌<◌, ◌-◌, ◌*◌}
-use native.Mathlib.Omega.{arith}
-use lib.ListN.{length, get_or, length-set}
-use borrow.Author.Rules.{rules}
-use Rattle.loops.specs.Front.{front, tab, tab-none, tab-read, tab-more, tab-all}
+use Prim.Native.Nat.{ℕ, ◌+◌, ◌≤◌, ◌-◌, ◌*◌}
+use lib.ListN.{length, get_or}
+use Rattle.loops.specs.Front.{front, tab}
 use Rattle.mdct_pairs.proofs.lanes.onward.Given as goal
 
 -- the next place of output j

@@ -1,7 +1,6 @@
 use mathlib.Core.Path.{sym}
 use Prim.Native.Nat.{◌≤◌, ◌*◌}
 use native.Mathlib.Omega.{arith}
-use borrow.Author.Rules.{rules}
 use Rattle.noise_spectrum.proofs.Calls.{Fits, spectrum-left}
 use Rattle.noise_block.specs.Block.{noise_block}
 use Rattle.noise_block.proofs.Calls.{lent-zeros, lent-count, back-size, back_is, back_in, back_count, block-is}

@@ -1,10 +1,10 @@
 use mathlib.Core.Path.{◌≡◌, ap, ◌∙◌}
-use Prim.Native.Nat.{◌+◌, ◌≤◌, ◌-◌, ◌/◌}
+use Prim.Native.Nat.{◌+◌, ◌-◌, ◌/◌}
 use native.Mathlib.Omega.{arith}
-use lib.ListN.{length, get_or, length-set}
+use lib.ListN.{get_or, length-set}
 use borrow.Author.Rules.{rules}
 use lib.Ieee.{nan, binary32, of_bits, mul}
-use Rattle.loops.specs.Front.{front, tab, tab-none, tab-more, tab-all}
+use Rattle.loops.specs.Front.{tab, tab-none, tab-more, tab-all}
 use Rattle.celt_window.specs.Window.{low_overlap_window}
 use Rattle.noise_block.specs.Block.{windowed}
 use Rattle.noise_block.proofs.block.window_outputs.Goals as goal

@@ -2,7 +2,7 @@ use mathlib.Core.Path.{refl, sym}
 use Prim.Native.Nat.{◌+◌}
 use lib.Dec.{lit≤}
 use Rattle.take_in.specs.TakeIn.{extra}
-use Rattle.pitch_loss.proofs.Tails.{frame-word, frame-room, front-size, front_kept, ends-within, one_follows, mono-is}
+use Rattle.pitch_loss.proofs.Tails.{frame-word, frame-room, front-size, front_kept, one_follows, mono-is}
 use Rattle.pitch_loss.proofs.channels.conceal_mono.Goals as goal
 
 pub coefficients-lpc-requires : goal.coefficients-lpc-requires

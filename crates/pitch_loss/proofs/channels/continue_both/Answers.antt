@@ -5,7 +5,7 @@ use lib.ListN.{length}
 use borrow.Author.Rules.{rules}
 use Rattle.extrapolate.specs.Extrapolate.{order}
 use Rattle.take_in.specs.TakeIn.{extra}
-use Rattle.pitch_loss.proofs.Tails.{frame-word, frame-room, front-size, front_kept, ends-within, both_follow}
+use Rattle.pitch_loss.proofs.Tails.{frame-word, frame-room, front-size, front_kept, both_follow}
 use Rattle.pitch_loss.proofs.channels.continue_both.Goals as goal
 
 pub coefficients-lpc0-requires : goal.coefficients-lpc0-requires

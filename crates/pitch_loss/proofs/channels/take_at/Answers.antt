@@ -1,7 +1,6 @@
 use mathlib.Core.Path.{sym}
 use Prim.Native.Nat.{◌+◌}
 use native.Mathlib.Omega.{arith}
-use borrow.Author.Rules.{rules}
 use Rattle.history.specs.History.{half, overlap}
 use Rattle.pitch_loss.proofs.Tails.{frame-word, front-size, part_count, tail-room, lent-kept, taken_in}
 use Rattle.pitch_loss.proofs.channels.take_at.Goals as goal

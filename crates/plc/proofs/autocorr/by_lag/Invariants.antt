@@ -1,12 +1,9 @@
 -- The places passed have the sums of their lags, which the row has in the other order.
 use mathlib.Core.Path.{◌≡◌}
 use Prim.Native.Nat.{◌≤◌, ◌-◌}
-use lib.ListN.{length, length-set}
-use borrow.Author.Rules.{rules}
-use lib.Ieee.{nan}
-use Rattle.loops.specs.Front.{front, tab, tab-none, tab-more, tab-all}
+use lib.ListN.{length}
+use Rattle.loops.specs.Front.{front, tab}
 use Rattle.plc.specs.Autocorr.{lag_sum}
-use Rattle.plc.proofs.Lags.{turned, floored}
 use Rattle.plc.proofs.autocorr.by_lag.Given as goal
 
 abbrev pub invariant-loop-lag : goal.invariant-loop-lag

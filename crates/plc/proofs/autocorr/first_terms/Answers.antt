@@ -1,10 +1,10 @@
 -- Each place of the row is the sum of its lag below the longest lag.
 use mathlib.Core.Path.{◌≡◌, refl, ap, ◌∙◌}
-use Prim.Native.Nat.{◌≤◌, ◌-◌}
+use Prim.Native.Nat.{◌-◌}
 use lib.ListN.{length, length-set}
 use borrow.Author.Rules.{rules}
 use lib.Ieee.{nan}
-use Rattle.loops.specs.Front.{front, tab, tab-none, tab-more, tab-all}
+use Rattle.loops.specs.Front.{tab-none, tab-more, tab-all}
 use Rattle.plc.specs.Autocorr.{lag_to, row_at}
 use Rattle.plc.proofs.Lags.{lag_none, lag_more}
 use Rattle.plc.proofs.autocorr.first_terms.Goals as goal

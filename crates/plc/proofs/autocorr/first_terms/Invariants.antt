@@ -1,12 +1,9 @@
 -- Each place of the row is the sum of its lag below the longest lag.
-use mathlib.Core.Path.{◌≡◌, refl, ap, ◌∙◌}
+use mathlib.Core.Path.{◌≡◌}
 use Prim.Native.Nat.{◌≤◌, ◌-◌}
-use lib.ListN.{length, length-set}
-use borrow.Author.Rules.{rules}
-use lib.Ieee.{nan}
-use Rattle.loops.specs.Front.{front, tab, tab-none, tab-more, tab-all}
+use lib.ListN.{length}
+use Rattle.loops.specs.Front.{front, tab}
 use Rattle.plc.specs.Autocorr.{lag_to, row_at}
-use Rattle.plc.proofs.Lags.{lag_none, lag_more}
 use Rattle.plc.proofs.autocorr.first_terms.Given as goal
 
 abbrev pub invariant-loop-i : goal.invariant-loop-i

@@ -1,10 +1,10 @@
 -- At sample i the row has every lag's sum below i; inside, the places passed have the term of sample i too.
 use mathlib.Core.Path.{◌≡◌, ap, ◌∙◌}
-use Prim.Native.Nat.{◌+◌, ◌≤◌, ◌-◌}
+use Prim.Native.Nat.{◌+◌, ◌-◌}
 use lib.ListN.{length, length-set}
 use borrow.Author.Rules.{rules}
 use lib.Ieee.{nan}
-use Rattle.loops.specs.Front.{front, tab, tab-none, tab-all}
+use Rattle.loops.specs.Front.{tab, tab-none, tab-all}
 use Rattle.plc.specs.Autocorr.{row_at, lag_row}
 use Rattle.plc.proofs.Lags.{row_more}
 use Rattle.plc.proofs.autocorr.other_terms.Goals as goal

@@ -1,12 +1,9 @@
 -- At sample i the row has every lag's sum below i; inside, the places passed have the term of sample i too.
-use mathlib.Core.Path.{◌≡◌, ap, ◌∙◌}
+use mathlib.Core.Path.{◌≡◌}
 use Prim.Native.Nat.{◌+◌, ◌≤◌, ◌-◌}
-use lib.ListN.{length, length-set}
-use borrow.Author.Rules.{rules}
-use lib.Ieee.{nan}
-use Rattle.loops.specs.Front.{front, tab, tab-none, tab-all}
+use lib.ListN.{length}
+use Rattle.loops.specs.Front.{front, tab}
 use Rattle.plc.specs.Autocorr.{row_at, lag_row}
-use Rattle.plc.proofs.Lags.{row_more}
 use Rattle.plc.proofs.autocorr.other_terms.Given as goal
 
 abbrev pub invariant-loop-j : goal.invariant-loop-j

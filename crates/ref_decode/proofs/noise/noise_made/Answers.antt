@@ -1,6 +1,5 @@
 -- `ref_decode::noise::noise_made` meets its contract.
 use Rattle.ref_decode.proofs.Paths.{noise_path}
-use borrow.Author.Rules.{rules}
 use Rattle.ref_decode.proofs.noise.noise_made.Goals as goal
 
 pub returns : goal.returns

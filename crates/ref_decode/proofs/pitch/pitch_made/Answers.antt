@@ -1,7 +1,6 @@
 -- `ref_decode::pitch::pitch_made` meets its contract.
 use Rattle.state.proofs.Keep.{ok-start}
 use Rattle.ref_decode.proofs.Paths.{pitch_path}
-use borrow.Author.Rules.{rules}
 use Rattle.ref_decode.proofs.pitch.pitch_made.Goals as goal
 
 pub lag_used-lag-requires : goal.lag_used-lag-requires

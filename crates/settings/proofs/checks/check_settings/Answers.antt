@@ -3,7 +3,6 @@ use mathlib.Core.Path.{ap, ap₂, ◌∙◌}
 use mathlib.Core.Bool.{cond}
 use Rattle.settings.specs.Number.{or_else}
 use Rattle.settings.specs.Settings.{check_settings}
-use borrow.Author.Rules.{rules}
 use Rattle.settings.proofs.checks.check_settings.Goals as goal
 
 pub returns : goal.returns

@@ -2,7 +2,6 @@
 use native.Mathlib.Omega.{arith}
 use mathlib.Core.Path.{◌∙◌}
 use Rattle.settings.proofs.Table.{or-first, or-second}
-use borrow.Author.Rules.{rules}
 use Rattle.settings.proofs.checks.or_else.Goals as goal
 
 pub returns-then-value-eq0 : goal.returns-then-value-eq0

@@ -1,7 +1,6 @@
 -- `settings::checks::settings_pass` meets its contract.
 use mathlib.Core.Path.{ap, ◌∙◌}
 use lib.Dec.{eqb}
-use borrow.Author.Rules.{rules}
 use Rattle.settings.proofs.checks.settings_pass.Goals as goal
 
 pub returns : goal.returns

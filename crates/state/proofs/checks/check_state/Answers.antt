@@ -3,7 +3,6 @@ use mathlib.Core.Path.{ap, ap₂, ◌∙◌}
 use mathlib.Core.Bool.{cond}
 use Rattle.settings.specs.Number.{or_else}
 use Rattle.state.specs.Refusal.{refuses_state}
-use borrow.Author.Rules.{rules}
 use Rattle.state.proofs.checks.check_state.Goals as goal
 
 pub returns : goal.returns

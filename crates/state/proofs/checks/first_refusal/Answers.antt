@@ -4,7 +4,6 @@ use mathlib.Core.Bool.{cond}
 use lib.Dec.{leb}
 use Rattle.settings.specs.Number.{or_else}
 use Rattle.state.specs.Refusal.{refusal}
-use borrow.Author.Rules.{rules}
 use Rattle.state.proofs.checks.first_refusal.Goals as goal
 
 pub returns : goal.returns
