@@ -1,28 +1,30 @@
 // Ops 401 and 402: the draw and the renormalisation.
-use crate::streams;
+use crate::streams::{Wire, at_most};
+use std::io;
 
-fn answer_draw() -> bool {
-    let seed = streams::read_word();
-    streams::write_word(draw::celt_lcg_rand(seed))
+fn answer_draw(wire: &mut Wire) -> io::Result<()> {
+    let seed = wire.read_word()?;
+    wire.write_word(draw::celt_lcg_rand(seed))
 }
 
 fn renormalise_front(x: &mut [f32], width: usize) {
-    let end = streams::at_most(width, x.len());
+    let end = at_most(width, x.len());
     band_quant::renormalise_vector(&mut x[..end], 1.0);
 }
 
-fn answer_band() -> bool {
-    let width = streams::read_word();
+fn answer_band(wire: &mut Wire) -> io::Result<()> {
+    let width = wire.read_word()?;
     let mut x = [0.0f32; 176];
-    streams::read_floats(&mut x);
+    wire.read_floats(&mut x)?;
     renormalise_front(&mut x, width as usize);
-    streams::write_floats(&x)
+    wire.write_floats(&x)
 }
 
-pub(crate) fn answer(op: u32) -> bool {
+pub(crate) fn answer(wire: &mut Wire, op: u32) -> io::Result<bool> {
     match op {
-        401 => answer_draw(),
-        402 => answer_band(),
-        _ => false,
+        401 => answer_draw(wire)?,
+        402 => answer_band(wire)?,
+        _ => return Ok(false),
     }
+    Ok(true)
 }

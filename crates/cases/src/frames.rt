@@ -1,9 +1,10 @@
 // Op 701: the de-emphasis of one frame.
-use crate::streams;
+use crate::streams::{Wire, at_most};
 use deemphasis::Deemphasised;
 use deemphasis_mono::deemphasis_mono;
 use deemphasis_stereo::deemphasis_stereo;
 use sizes::frame_size;
+use std::io;
 
 // The first n samples of v.
 fn mono(
@@ -13,7 +14,7 @@ fn mono(
     downsample: usize,
     pcm: &mut [f32],
 ) -> Deemphasised {
-    let end = streams::at_most(n, v.len());
+    let end = at_most(n, v.len());
     deemphasis_mono(&v[..end], memories, downsample, pcm)
 }
 
@@ -26,8 +27,8 @@ fn stereo(
     downsample: usize,
     pcm: &mut [f32],
 ) -> Deemphasised {
-    let first = streams::at_most(n, v.len());
-    let second = streams::at_most(n, w.len());
+    let first = at_most(n, v.len());
+    let second = at_most(n, w.len());
     deemphasis_stereo(&v[..first], &w[..second], memories, downsample, pcm)
 }
 
@@ -48,25 +49,26 @@ fn sound(
 }
 
 // Three words ahead of the floats: lm, channels and downsample.
-fn answer_frame() -> bool {
-    let n = frame_size(streams::read_word());
-    let channels = streams::read_word();
-    let downsample = streams::read_word() as usize;
-    let memories = [streams::read_float(), streams::read_float()];
+fn answer_frame(wire: &mut Wire) -> io::Result<()> {
+    let n = frame_size(wire.read_word()?);
+    let channels = wire.read_word()?;
+    let downsample = wire.read_word()? as usize;
+    let memories = [wire.read_float()?, wire.read_float()?];
     let mut v = [0.0f32; 960];
-    streams::read_floats(&mut v);
+    wire.read_floats(&mut v)?;
     let mut w = [0.0f32; 960];
-    streams::read_floats(&mut w);
+    wire.read_floats(&mut w)?;
     let mut pcm = [0.0f32; 1920];
     let r = sound(channels, &v, &w, n, memories, downsample, &mut pcm);
-    streams::write_floats(&pcm);
+    wire.write_floats(&pcm)?;
     let after = r.memories;
-    streams::write_floats(&after)
+    wire.write_floats(&after)
 }
 
-pub(crate) fn answer(op: u32) -> bool {
+pub(crate) fn answer(wire: &mut Wire, op: u32) -> io::Result<bool> {
     match op {
-        701 => answer_frame(),
-        _ => false,
+        701 => answer_frame(wire)?,
+        _ => return Ok(false),
     }
+    Ok(true)
 }

@@ -1,6 +1,6 @@
 // Answers cases by their op's number: an op word, then that op's words, and out its answer's words.
 // Each module holds the ops of one hundred. The program stops at the end of the input and at an op
-// that it does not know; what a cut case lacks counts as 0.
+// that it does not know; what a cut case lacks counts as 0. A read or a write that fails ends it.
 
 #![tactic(auto)]
 
@@ -17,32 +17,41 @@ mod search;
 mod streams;
 mod transform;
 
+use std::io;
+use streams::Wire;
+
 // One case; false where there is no more to answer.
-fn answer() -> bool {
-    let op = streams::next_word();
+fn answer(wire: &mut Wire) -> io::Result<bool> {
+    let op = wire.next_word()?;
     if !op.whole {
-        return false;
+        return Ok(false);
     }
     let number = op.value;
     match number / 100 {
-        1 => floats::answer(number),
-        2 => filters::answer(number),
-        3 => search::answer(number),
-        4 => bands::answer(number),
-        5 => modes::answer(number),
-        6 => transform::answer(number),
-        7 => frames::answer(number),
-        8 => pitch::answer(number),
-        9 => noise::answer(number),
-        10 => losses::answer(number),
-        _ => false,
+        1 => floats::answer(wire, number),
+        2 => filters::answer(wire, number),
+        3 => search::answer(wire, number),
+        4 => bands::answer(wire, number),
+        5 => modes::answer(wire, number),
+        6 => transform::answer(wire, number),
+        7 => frames::answer(wire, number),
+        8 => pitch::answer(wire, number),
+        9 => noise::answer(wire, number),
+        10 => losses::answer(wire, number),
+        _ => Ok(false),
     }
 }
 
-// The loop counts its turns down, from a number that no run uses up.
-fn main() {
-    let mut turns = u64::MAX;
-    while turns > 0 && answer() {
-        turns -= 1;
+// Each answer is out before the next case is read. Nothing says that the input ends, so the loop counts to a number that no
+// run reaches.
+fn main(rt: HostRuntime) -> io::Result<()> {
+    let mut wire = Wire::new(rt.alloc(), rt.stdin(), rt.stdout())?;
+    for _ in 0..u64::MAX {
+        let more = answer(&mut wire)?;
+        wire.flush()?;
+        if !more {
+            break;
+        }
     }
+    Ok(())
 }

@@ -1,8 +1,10 @@
-// Words and floats on standard input and output. What is read past the end of the input is 0. Where the output takes no
-// more, what is written after it ends too: of several in a row the last tells of all.
-ghost use Rattle.std.specs.Prelude.{◌≤◌};
+// Words and floats on standard input and output. What is read past the end of the input is 0.
+ghost use Rattle.std.specs.Prelude.{◌≡◌, ◌≤◌, to_bits};
+ghost use Rattle.std.specs.Float.{binary64};
 
 use float_bits::words::{f32_from_word, f32_to_word};
+use std::alloc::Global;
+use std::io::{BufReader, BufWriter, Bytes, Read, Result, Stdin, Stdout, Write};
 
 // `whole` is false where the input ended first.
 #[derive(Clone, Copy)]
@@ -11,83 +13,128 @@ pub(crate) struct Word {
     pub whole: bool,
 }
 
-pub(crate) fn next_word() -> Word {
-    let mut b = [0u8; 4];
-    let n = io::read_full(libc::STDIN_FILENO, &mut b);
-    Word {
-        value: words::word_at(&b, 0),
-        whole: n == 4,
+// Both streams. A read or a write that a signal interrupts is made again, and loses nothing.
+#[derive(Drop)]
+pub(crate) struct Wire {
+    input: Bytes<BufReader<Stdin>>,
+    output: BufWriter<Stdout>,
+}
+
+impl Wire {
+    pub(crate) fn new(alloc: Global, stdin: Stdin, stdout: Stdout) -> Result<Wire> {
+        let reader = BufReader::new(alloc, stdin)?;
+        let output = BufWriter::new(alloc, stdout)?;
+        Ok(Wire {
+            input: reader.bytes(),
+            output,
+        })
     }
-}
 
-pub(crate) fn read_word() -> u32 {
-    let w = next_word();
-    w.value
-}
+    // Fills buf as far as the input goes; how many bytes came.
+    fn fill(&mut self, buf: &mut [u8]) -> Result<usize> {
+        for (i, place) in buf.iter_mut().enumerate() {
+            match self.input.next() {
+                Some(byte) => *place = byte?,
+                None => return Ok(i),
+            }
+        }
+        Ok(buf.len())
+    }
 
-// False where the output takes no more.
-pub(crate) fn write_word(w: u32) -> bool {
-    let b = [
-        (w % 0x100) as u8,
-        (w / 0x100 % 0x100) as u8,
-        (w / 0x1_0000 % 0x100) as u8,
-        (w / 0x100_0000) as u8,
-    ];
-    io::write_all(libc::STDOUT_FILENO, &b)
-}
+    pub(crate) fn next_word(&mut self) -> Result<Word> {
+        let mut b = [0u8; 4];
+        let n = self.fill(&mut b)?;
+        Ok(Word {
+            value: words::word_at(&b, 0),
+            whole: n == 4,
+        })
+    }
 
-// Every number that is written here fits a word.
-pub(crate) fn write_number(n: usize) -> bool {
-    write_word((n % 0x1_0000_0000) as u32)
-}
+    pub(crate) fn read_word(&mut self) -> Result<u32> {
+        let w = self.next_word()?;
+        Ok(w.value)
+    }
 
-pub(crate) fn write_float(x: f32) -> bool {
-    write_word(f32_to_word(x))
+    pub(crate) fn write_word(&mut self, w: u32) -> Result<()> {
+        self.output.write_all(&w.to_le_bytes())
+    }
+
+    // Every number that is written here fits a word.
+    pub(crate) fn write_number(&mut self, n: usize) -> Result<()> {
+        self.write_word((n % 0x1_0000_0000) as u32)
+    }
+
+    pub(crate) fn write_float(&mut self, x: f32) -> Result<()> {
+        self.write_word(f32_to_word(x))
+    }
+
+    // The low word first.
+    pub(crate) fn write_double(&mut self, x: f64) -> Result<()> {
+        let bits = double_bits(x);
+        self.write_word((bits % 0x1_0000_0000) as u32)?;
+        self.write_word((bits / 0x1_0000_0000) as u32)
+    }
+
+    pub(crate) fn read_float(&mut self) -> Result<f32> {
+        Ok(f32_from_word(self.read_word()?))
+    }
+
+    pub(crate) fn read_words(&mut self, x: &mut [u32]) -> Result<()> {
+        for place in x.iter_mut() {
+            *place = self.read_word()?;
+        }
+        Ok(())
+    }
+
+    pub(crate) fn read_floats(&mut self, x: &mut [f32]) -> Result<()> {
+        for place in x.iter_mut() {
+            *place = self.read_float()?;
+        }
+        Ok(())
+    }
+
+    pub(crate) fn write_floats(&mut self, x: &[f32]) -> Result<()> {
+        for sample in x {
+            self.write_float(*sample)?;
+        }
+        Ok(())
+    }
+
+    // The values of x from one place to another.
+    pub(crate) fn read_part(&mut self, x: &mut [f32], from: usize, to: usize) -> Result<()> {
+        let end = at_most(to, x.len());
+        let begin = at_most(from, end);
+        self.read_floats(&mut x[begin..end])
+    }
+
+    // The first n of x.
+    pub(crate) fn write_first(&mut self, x: &[f32], n: usize) -> Result<()> {
+        let end = at_most(n, x.len());
+        self.write_floats(&x[..end])
+    }
+
+    // The first n bytes of b.
+    pub(crate) fn read_bytes(&mut self, b: &mut [u8], n: usize) -> Result<()> {
+        let end = at_most(n, b.len());
+        self.fill(&mut b[..end])?;
+        Ok(())
+    }
+
+    pub(crate) fn write_bytes(&mut self, b: &[u8]) -> Result<()> {
+        self.output.write_all(b)
+    }
+
+    // What has been written so far goes out.
+    pub(crate) fn flush(&mut self) -> Result<()> {
+        self.output.flush()
+    }
 }
 
 // The bits of an f64; a NaN's are 7FF80000 00000000.
-fn double_bits(x: f64) -> u64 {
-    if x != x {
-        return 0x7ff8_0000_0000_0000;
-    }
-    f64::to_bits(x)
-}
-
-// The low word first.
-pub(crate) fn write_double(x: f64) -> bool {
-    let bits = double_bits(x);
-    if !write_word((bits % 0x1_0000_0000) as u32) {
-        return false;
-    }
-    write_word((bits / 0x1_0000_0000) as u32)
-}
-
-pub(crate) fn read_float() -> f32 {
-    f32_from_word(read_word())
-}
-
-pub(crate) fn read_words(x: &mut [u32]) {
-    let n = x.len();
-    for i in 0..n {
-        x[i] = read_word();
-    }
-}
-
-pub(crate) fn read_floats(x: &mut [f32]) {
-    let n = x.len();
-    for i in 0..n {
-        x[i] = read_float();
-    }
-}
-
-pub(crate) fn write_floats(x: &[f32]) -> bool {
-    let n = x.len();
-    for i in 0..n {
-        if !write_float(x[i]) {
-            return false;
-        }
-    }
-    true
+fn double_bits(x: f64) -> u64
+    ensures { result ≡ to_bits binary64 x }
+{
+    std::num::f64_to_bits_with_nan(x)
 }
 
 // Places in a buffer that a case names are held to the buffer's length; a case within its ranges has none past it.
@@ -95,27 +142,4 @@ pub(crate) fn at_most(n: usize, most: usize) -> usize
     ensures { result ≤ most }
 {
     if n < most { n } else { most }
-}
-
-// The values of x from one place to another.
-pub(crate) fn read_part(x: &mut [f32], from: usize, to: usize) {
-    let end = at_most(to, x.len());
-    let begin = at_most(from, end);
-    read_floats(&mut x[begin..end]);
-}
-
-// The first n of x.
-pub(crate) fn write_first(x: &[f32], n: usize) -> bool {
-    let end = at_most(n, x.len());
-    write_floats(&x[..end])
-}
-
-// The first n bytes of b.
-pub(crate) fn read_bytes(b: &mut [u8], n: usize) {
-    let end = at_most(n, b.len());
-    io::read_full(libc::STDIN_FILENO, &mut b[..end]);
-}
-
-pub(crate) fn write_bytes(b: &[u8]) -> bool {
-    io::write_all(libc::STDOUT_FILENO, b)
 }

@@ -5,59 +5,112 @@
 
 mod streams;
 
-// Writes, and says so where the output takes no more.
-fn written(bytes: &[u8]) -> bool {
-    if streams::write_all(bytes) {
-        return true;
-    }
-    os::fail(b"conceal: output not written");
-    false
+ghost use Rattle.std.specs.Prelude.{◌-◌, ◌/◌, ◌^◌, ◌<◌, ◌≤◌, length, take, IfSome, IfOk, OnOk};
+ghost use Rattle.std.specs.Io.KnownBytes.{Appends, Consumes, IsAtEnd};
+ghost use Rattle.record.specs.Record.{record_length};
+ghost use Rattle.answer_head.specs.Head.{answer_tail};
+ghost use Rattle.answer.specs.Answer.{answers};
+ghost use Rattle.answer_laws.specs.Program.{buffer, head_bytes, whole_step};
+ghost use Rattle.conceal.specs.Turn.{IsTurn};
+
+use anyhow::{Context, Result};
+use std::io::{Read, Write};
+use std::process::ExitCode;
+use std::rt::Clock;
+
+// Reads a record, or says why it cannot.
+fn filled<R: Read>(clock: &impl Clock, input: &mut R, rec: &mut [u8]) -> Result<usize>
+    ensures bound { IfOk result (λ n. n ≤ length rec.new) }
+    ensures bytes { IfOk result (λ n. Consumes (R.remaining input.old) (R.remaining input.new) (take n rec.new)) }
+    ensures end { IfOk result (λ n. n < length rec.old → IsAtEnd (R.remaining input.new)) }
+{
+    streams::fill(clock, input, rec).context("input cannot be read")
 }
 
-fn say_cut(whole: u64) {
-    io::write_all(libc::STDERR_FILENO, b"conceal: a record cut short after ");
-    io::print_decimal(libc::STDERR_FILENO, whole);
-    io::write_all(libc::STDERR_FILENO, b" whole ones\n");
+// Writes, or says why the output takes no more.
+fn written<W: Write>(clock: &impl Clock, output: &mut W, bytes: &[u8]) -> Result<()>
+    ensures { OnOk result (Appends (W.contents output.old) (W.contents output.new) bytes.now) }
+{
+    streams::write_all(clock, output, bytes).context("output not written")
+}
+
+// Goes on where standard error takes nothing.
+fn say_cut(rt: &impl Eprint, whole: u64) {
+    let _ = eprintln!(rt; "conceal: a record cut short after {whole} whole ones");
 }
 
 // What is left past the last whole record, n bytes.
-fn answer_rest(n: usize, whole: u64) {
+fn answer_rest<W: Write>(
+    rt: &(impl Clock + Eprint),
+    output: &mut W,
+    n: usize,
+    whole: u64,
+) -> Result<()>
+    ensures { OnOk result (Appends (W.contents output.old) (W.contents output.new)
+        (head_bytes (answer_tail n buffer))) }
+{
     let mut head = [0u8; answer_head::HEAD_BYTES];
     let cut = answer_head::answer_tail(n, &mut head);
     if cut > 0 {
-        say_cut(whole);
-        written(&head[..cut]);
+        say_cut(rt, whole);
+        written(rt, output, &head[..cut])?;
     }
+    Ok(())
 }
 
-fn answer_whole(rec: &mut [u8]) -> bool {
+fn answer_whole<W: Write>(clock: &impl Clock, output: &mut W, rec: &mut [u8]) -> Result<()>
+    ensures { OnOk result (Appends (W.contents output.old) (W.contents output.new) (whole_step rec.old)) }
+{
     let mut head = [0u8; answer_head::HEAD_BYTES];
     let n = answer::answer_record(rec, &mut head);
-    if !written(&head[..n]) {
-        return false;
-    }
-    written(rec)
+    written(clock, output, &head[..n])?;
+    written(clock, output, rec)
 }
 
-// Reads and answers one record; false where there is no more to answer, and where reading or writing failed.
-fn conceal_one(whole: u64) -> bool {
+// Reads and answers one record; false where there is no more to answer.
+fn conceal_one<R: Read, W: Write>(
+    rt: &(impl Clock + Eprint),
+    input: &mut R,
+    output: &mut W,
+    whole: u64,
+) -> Result<bool>
+    ensures { IfOk result (λ more. IfSome (R.remaining input.old) (λ xs.
+        IsTurn xs (R.remaining input.new) (W.contents output.old) (W.contents output.new) more)) }
+{
     let mut rec = [0u8; record::BYTES];
-    let got = streams::fill(&mut rec);
-    if got.failed {
-        os::fail(b"conceal: input cannot be read");
-        return false;
+    let got = filled(rt, input, &mut rec)?;
+    if got < record::BYTES {
+        answer_rest(rt, output, got, whole)?;
+        return Ok(false);
     }
-    if got.bytes < record::BYTES {
-        answer_rest(got.bytes, whole);
-        return false;
-    }
-    answer_whole(&mut rec)
+    answer_whole(rt, output, &mut rec)?;
+    Ok(true)
 }
 
+// Where the input's bytes are known, what is written is exactly the answers to them.
 // A proved loop has to end, and nothing says that the input does. So it counts up to a number that no run reaches.
-fn main() {
-    let mut whole: u64 = 0;
-    while whole < u64::MAX && conceal_one(whole) {
-        whole += 1;
+fn conceal_all<R: Read, W: Write>(
+    rt: &(impl Clock + Eprint),
+    input: &mut R,
+    output: &mut W,
+) -> Result<()>
+    ensures { OnOk result (IfSome (R.remaining input.old) (λ xs. length xs / record_length < 2 ^ 64 - 1
+        → Appends (W.contents output.old) (W.contents output.new) (answers xs))) }
+{
+    for whole in 0..u64::MAX {
+        if !conceal_one(rt, input, output, whole)? {
+            break;
+        }
+    }
+    Ok(())
+}
+
+fn main(rt: HostRuntime) -> ExitCode {
+    match conceal_all(&rt, &mut rt.stdin(), &mut rt.stdout()) {
+        Ok(()) => ExitCode::SUCCESS,
+        Err(error) => {
+            let _ = eprintln!(rt; "conceal: {error:#}");
+            ExitCode::FAILURE
+        }
     }
 }

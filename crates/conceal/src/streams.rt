@@ -1,83 +1,98 @@
-// Standard input and output. A signal loses nothing, and a stream that does not block is waited for.
-use libc::{STDIN_FILENO, STDOUT_FILENO};
+// Reading and writing whole buffers. A signal loses nothing, and a stream that does not block is waited for.
+ghost use Rattle.std.specs.Prelude.{◌≡◌, ◌<◌, length, take, IfOk, OnOk, OnErr};
+ghost use Rattle.std.specs.Io.{ReadsAtMost, WritesAtMost};
+ghost use Rattle.std.specs.Io.KnownBytes.{Appends, Consumes, IsAtEnd, ReadConsumes, WriteAppends};
 
-// How many bytes came, and whether a failure ended them.
-#[derive(Clone, Copy)]
-pub(crate) struct Filled {
-    pub bytes: usize,
-    pub failed: bool,
-}
+use std::io::{Error, ErrorKind, Read, Result, Write};
+use std::rt::Clock;
+use std::thread;
+use std::time::Duration;
+
+// How long a stream that does not block is left alone.
+const PAUSE_MILLIS: u64 = 1;
 
 // Whether a call that just failed is made again: a signal came first, or there is nothing to be had yet.
-fn again() -> bool {
-    let error = os::errno();
-    if error == libc::EAGAIN {
-        libc::sched_yield();
-        return true;
+fn again(clock: &impl Clock, error: &Error) -> bool {
+    match error.kind() {
+        ErrorKind::Interrupted => true,
+        ErrorKind::WouldBlock => {
+            thread::sleep(clock, Duration::from_millis(PAUSE_MILLIS));
+            true
+        }
+        _ => false,
     }
-    error == libc::EINTR
 }
 
-// One read that moves bytes, ends or fails. It counts its turns down: a proved loop has to end.
-fn read_some(part: &mut [u8]) -> isize {
-    let mut turns = u64::MAX;
-    let mut got = libc::read(STDIN_FILENO, part);
-    while turns > 0 && got < 0 && again() {
-        got = libc::read(STDIN_FILENO, part);
-        turns -= 1;
+fn gave_up() -> Error {
+    Error::new(ErrorKind::TimedOut, "gave up after 2^64 tries")
+}
+
+// One read that moves bytes, ends or fails.
+fn read_some<R: Read>(clock: &impl Clock, input: &mut R, part: &mut [u8]) -> Result<usize>
+    ensures bound { ReadsAtMost result part.new }
+    ensures bytes { ReadConsumes (R.remaining input.old) (R.remaining input.new) result part.new }
+{
+    for _ in 0..u64::MAX {
+        match input.read(part) {
+            Ok(n) => return Ok(n),
+            Err(error) => {
+                if !again(clock, &error) {
+                    return Err(error);
+                }
+            }
+        }
     }
-    got
+    Err(gave_up())
 }
 
 // One write that moves bytes or fails.
-fn write_some(part: &[u8]) -> isize {
-    let mut turns = u64::MAX;
-    let mut put = libc::write(STDOUT_FILENO, part);
-    while turns > 0 && put < 0 && again() {
-        put = libc::write(STDOUT_FILENO, part);
-        turns -= 1;
+fn write_some<W: Write>(clock: &impl Clock, output: &mut W, part: &[u8]) -> Result<usize>
+    ensures bound { WritesAtMost result part.now }
+    ensures bytes { WriteAppends (W.contents output.old) (W.contents output.new) result part.now }
+{
+    for _ in 0..u64::MAX {
+        match output.write(part) {
+            Ok(n) => return Ok(n),
+            Err(error) => {
+                if !again(clock, &error) {
+                    return Err(error);
+                }
+            }
+        }
     }
-    put
+    Err(gave_up())
 }
 
-// Reads until buf is full, the input ends or a read fails.
-pub(crate) fn fill(buf: &mut [u8]) -> Filled {
+// Reads until buf is full or the input ends; how many bytes came.
+pub(crate) fn fill<R: Read>(clock: &impl Clock, input: &mut R, buf: &mut [u8]) -> Result<usize>
+    ensures bound { ReadsAtMost result buf.new }
+    ensures bytes { IfOk result (λ n. Consumes (R.remaining input.old) (R.remaining input.new) (take n buf.new)) }
+    ensures end { IfOk result (λ n. n < length buf.old → IsAtEnd (R.remaining input.new)) }
+{
     let n = buf.len();
     let mut done: usize = 0;
     while done < n {
-        let got = read_some(&mut buf[done..]);
-        if got < 0 {
-            return Filled {
-                bytes: done,
-                failed: true,
-            };
-        }
-        let more = io::count(got, &buf[done..]);
+        let more = read_some(clock, input, &mut buf[done..])?;
         if more == 0 {
-            return Filled {
-                bytes: done,
-                failed: false,
-            };
+            return Ok(done);
         }
         done += more;
     }
-    Filled {
-        bytes: done,
-        failed: false,
-    }
+    Ok(done)
 }
 
-// Writes all of buf; false where the output took no more.
-pub(crate) fn write_all(buf: &[u8]) -> bool {
+// Writes all of buf.
+pub(crate) fn write_all<W: Write>(clock: &impl Clock, output: &mut W, buf: &[u8]) -> Result<()>
+    ensures { OnOk result (Appends (W.contents output.old) (W.contents output.new) buf.now) }
+{
     let n = buf.len();
     let mut done: usize = 0;
     while done < n {
-        let put = write_some(&buf[done..]);
-        let more = io::count(put, &buf[done..]);
+        let more = write_some(clock, output, &buf[done..])?;
         if more == 0 {
-            return false;
+            return Err(Error::from(ErrorKind::WriteZero));
         }
         done += more;
     }
-    true
+    Ok(())
 }

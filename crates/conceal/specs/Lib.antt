@@ -1,0 +1,2 @@
+-- One turn of the program.
+pub mod Turn
