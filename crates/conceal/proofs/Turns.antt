@@ -1,5 +1,6 @@
 -- Turn by turn the program writes the answers to its whole input.
-use Rattle.std.proofs.Common.{◌≡◌, ℕ, suc, ◌+◌, ◌-◌, ◌/◌, ◌<◌, ◌≤◌, List, [], ◌++◌, Bool, true, false, None, Some, IfSome, Result, Ok, Err, OnOk, arith, length, take, drop, take_all, drop_at, length-append, refl, sym, ap, subst, ◌∙◌, append_assoc, append-nil}
+use Rattle.std.proofs.Common.{◌≡◌, ℕ, suc, ◌+◌, ◌-◌, ◌/◌, ◌<◌, ◌≤◌, List, [], ◌++◌, Bool, true, false, None, Some, IfSome, Result, Ok, Err, OnOk}
+use Rattle.std.proofs.Common.{arith, length, take, drop, take_all, drop_at, length-append, refl, sym, ap, subst, ◌∙◌, append_assoc, append-nil}
 use Rattle.std.specs.declared.option.Option.{Option}
 use Rattle.std.specs.Io.KnownBytes.{Keeps, Appends, Consumes}
 use Rattle.std.proofs.KnownBytes.{Appends-nil, Appends-trans}
