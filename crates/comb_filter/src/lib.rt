@@ -3,7 +3,7 @@
 #![tactic(auto)]
 
 ghost use Rattle.std.specs.Prelude.{◌≡◌, ◌+◌, ◌≤◌, ◌<◌, length};
-ghost use Rattle.loops.specs.Reply.{reply, reply_if};
+ghost use Rattle.reply.specs.Reply.{reply, reply_if};
 ghost use Rattle.post_filter.specs.Limits.{period_most};
 ghost use Rattle.history.specs.History.{half, overlap};
 ghost use Rattle.comb_filter.specs.Comb.{tap_gain, comb_at, comb_filter_to, comb_filtered, comb_takes};

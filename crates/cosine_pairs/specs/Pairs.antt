@@ -1,7 +1,7 @@
 -- The circle of cosines in pairs: each cosine beside the one a quarter of the circle on.
 use Rattle.std.specs.Prelude.{List, Bool, ◌&&◌, ℕ, ◌+◌, ◌*◌, ◌/◌, ◌%◌, eqb, length, Float}
 use Rattle.loops.specs.Front.{tab}
-use Rattle.loops.specs.Reply.{Reply, reply_if}
+use Rattle.reply.specs.Reply.{Reply, reply_if}
 use Rattle.cosine_circle.specs.Circle.{cos_at, is_frame_size}
 
 -- the cosine i steps and a half round a circle of 4 n steps, round and round

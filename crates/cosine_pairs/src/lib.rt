@@ -4,7 +4,7 @@
 
 ghost use Rattle.std.specs.Prelude.{◌≡◌, true, ◌++◌, ℕ, ◌+◌, ◌*◌, ◌%◌, ◌≤◌, ◌<◌, length, take};
 ghost use Rattle.loops.specs.Front.{front, tab};
-ghost use Rattle.loops.specs.Reply.{reply};
+ghost use Rattle.reply.specs.Reply.{reply};
 ghost use Rattle.cosine_table.specs.Cosines.{cosines};
 ghost use Rattle.cosine_circle.specs.Circle.{cos_at, is_frame_size};
 ghost use Rattle.cosine_pairs.specs.Pairs.{pair_at, pairs_reply};

@@ -12,7 +12,7 @@ use borrow.Author.Tests.{leb-true, eqb-true, eq-eqb, ne_eqb}
 use Rattle.loops.specs.Fold.{fold_more, fold-none}
 use Rattle.loops.specs.Front.{tab, front, tab-same}
 use Rattle.loops.specs.Logic.{and-true, and_first, and_second}
-use Rattle.loops.specs.Reply.{reply, reply-yes, reply-no}
+use Rattle.reply.specs.Reply.{reply, reply-yes, reply-no}
 use Rattle.deemphasis.specs.Deemphasis.{next_memory, memory_to, pcm_value, sample_at, value_at, has_room, Room, sound, deemphasis, length_pcm, deemphasised, deemphasis_mono, deemphasis_stereo}
 
 -- the samples of one kept value lie within the frame

@@ -5,7 +5,7 @@ use Rattle.std.specs.Float.{nan, binary32}
 use Rattle.std.specs.Float.Ieee.{of_bits, add, sub, mul}
 use Rattle.loops.specs.Fold.{fold_to}
 use Rattle.loops.specs.Front.{tab, front, length-tab}
-use Rattle.loops.specs.Reply.{Reply, reply_if}
+use Rattle.reply.specs.Reply.{Reply, reply_if}
 use Rattle.custom_mode.specs.Mode.{preemph}
 
 -- the standard mode's coefficients that are used

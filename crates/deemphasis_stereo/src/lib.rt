@@ -4,7 +4,7 @@
 
 ghost use Rattle.std.specs.Prelude.{◌≡◌, [], ◌∷◌, ◌*◌, ◌/◌, length};
 ghost use Rattle.loops.specs.Front.{front, tab};
-ghost use Rattle.loops.specs.Reply.{reply};
+ghost use Rattle.reply.specs.Reply.{reply};
 ghost use Rattle.deemphasis.specs.Deemphasis.{memory_to, Room, value_at, sound, deemphasis_stereo};
 
 use deemphasis::{Deemphasised, has_room, next_memory, pcm_value};

@@ -10,7 +10,7 @@ use lib.Seq.{length-take-le, get_or-append-add, get_or-drop}
 use lib.Ieee.{Float, nan, binary32, mul}
 use borrow.Author.Tests.{eqb-true, leb-true, eq-eqb, le-leb}
 use Rattle.loops.specs.Logic.{and-true}
-use Rattle.loops.specs.Reply.{reply, reply_if, reply-lent}
+use Rattle.reply.specs.Reply.{reply, reply_if, reply-lent}
 use Rattle.buffers.specs.Buffers.{zero32}
 use Rattle.copying.specs.Copy.{copied, copied_all}
 use Rattle.history.specs.History.{half}

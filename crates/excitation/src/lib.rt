@@ -3,7 +3,7 @@
 #![tactic(auto)]
 
 ghost use Rattle.std.specs.Prelude.{◌≡◌, length};
-ghost use Rattle.loops.specs.Reply.{reply, reply_if};
+ghost use Rattle.reply.specs.Reply.{reply, reply_if};
 ghost use Rattle.buffers.specs.Buffers.{zero32};
 ghost use Rattle.periodic_copy.specs.Copy.{cycle, cycle_takes};
 ghost use Rattle.excitation.specs.Cycle.{pitch_cycle};

@@ -9,7 +9,7 @@ use lib.Dec.{eqb, leb}
 use lib.Ieee.{Float}
 use borrow.Author.Tests.{eqb-true, leb-true, eq-eqb, le-leb}
 use Rattle.loops.specs.Logic.{and-true}
-use Rattle.loops.specs.Reply.{reply, reply_if, reply-lent}
+use Rattle.reply.specs.Reply.{reply, reply_if, reply-lent}
 use Rattle.buffers.specs.Buffers.{zero32, times}
 use Rattle.history.specs.History.{half}
 use Rattle.plc_fir.specs.Fir.{celt_fir}

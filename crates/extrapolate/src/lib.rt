@@ -3,7 +3,7 @@
 #![tactic(auto)]
 
 ghost use Rattle.std.specs.Prelude.{◌≡◌, ◌≤◌, ◌<◌, length};
-ghost use Rattle.loops.specs.Reply.{reply, reply_if};
+ghost use Rattle.reply.specs.Reply.{reply, reply_if};
 ghost use Rattle.history.specs.History.{half};
 ghost use Rattle.plc_fir.specs.Fir.{celt_fir};
 ghost use Rattle.plc_iir_pair.specs.Pair.{channels};

@@ -9,7 +9,7 @@ use lib.Dec.{leb, eqb}
 use lib.Ieee.{Float}
 use borrow.Author.Tests.{leb-true, eqb-false, not-true}
 use Rattle.loops.specs.Front.{front}
-use Rattle.loops.specs.Reply.{reply, reply_if, reply-lent}
+use Rattle.reply.specs.Reply.{reply, reply_if, reply-lent}
 use Rattle.settings.specs.Settings.{needed}
 use Rattle.settings.proofs.Passed.{or-zero, passes}
 use Rattle.state.specs.Refusal.{check_count, check_pcm, refuses_state, refusal}

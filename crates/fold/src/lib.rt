@@ -3,7 +3,7 @@
 #![tactic(auto)]
 
 ghost use Rattle.std.specs.Prelude.{◌≡◌, ◌<◌, length};
-ghost use Rattle.loops.specs.Reply.{reply, reply_if};
+ghost use Rattle.reply.specs.Reply.{reply, reply_if};
 ghost use Rattle.history.specs.History.{overlap};
 ghost use Rattle.celt_window.specs.Window.{window};
 ghost use Rattle.fold.specs.Fold.{from_end, fold_at, folded, fold_takes};

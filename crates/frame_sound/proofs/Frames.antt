@@ -10,7 +10,7 @@ use lib.Dec.{eqb, lit≤}
 use lib.Ieee.{Float}
 use borrow.Author.Tests.{le-leb, eq-eqb, ne_eqb}
 use Rattle.loops.specs.Logic.{and_both}
-use Rattle.loops.specs.Reply.{reply, reply-lent}
+use Rattle.reply.specs.Reply.{reply, reply-lent}
 use Rattle.history.specs.History.{samples, channel, whole, both, newest}
 use Rattle.history.proofs.Parts.{slice-take}
 use Rattle.settings.specs.Settings.{frame, stereo, check_settings, block_factor, needed}

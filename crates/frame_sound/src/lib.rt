@@ -3,7 +3,7 @@
 #![tactic(auto)]
 
 ghost use Rattle.std.specs.Prelude.{◌≡◌, ◌≤◌, length};
-ghost use Rattle.loops.specs.Reply.{reply, reply_if};
+ghost use Rattle.reply.specs.Reply.{reply, reply_if};
 ghost use Rattle.history.specs.History.{whole};
 ghost use Rattle.settings.specs.Settings.{check_settings, needed};
 ghost use Rattle.deemphasis.specs.Deemphasis.{sound};

@@ -1,4 +1,4 @@
--- What counting loops compute, what a part of a list leaves, what a call that may refuse leaves. Definitions and laws only.
+-- What counting loops compute, what a part of a list leaves. Definitions and laws only.
 pub mod Fold
 pub mod Front
 pub mod Part
@@ -7,5 +7,4 @@ pub mod Pick
 pub mod Logic
 pub mod Below
 pub mod Every
-pub mod Reply
 pub mod Nan

@@ -5,7 +5,7 @@ use Rattle.std.specs.Float.{nan, binary64}
 use Rattle.std.specs.Float.Ieee.{of_bits, mul}
 use Rattle.loops.specs.Sum.{sum_to}
 use Rattle.loops.specs.Front.{tab, length-tab}
-use Rattle.loops.specs.Reply.{Reply, reply, reply_if, reply-lent}
+use Rattle.reply.specs.Reply.{Reply, reply, reply_if, reply-lent}
 use Rattle.float_narrow.specs.Narrow.{narrow}
 use Rattle.cosine_circle.specs.Circle.{cos_at, is_frame_size}
 

@@ -3,7 +3,7 @@ ghost use Rattle.std.specs.Prelude.{◌≡◌, true, ◌++◌, ℕ, ◌+◌, ◌
 ghost use Rattle.std.specs.Float.{nan, binary64};
 ghost use Rattle.std.specs.Float.Ieee.{add, mul};
 ghost use Rattle.loops.specs.Front.{front, tab};
-ghost use Rattle.loops.specs.Reply.{reply};
+ghost use Rattle.reply.specs.Reply.{reply};
 ghost use Rattle.cosine_circle.specs.Circle.{is_frame_size, IsCircle};
 ghost use Rattle.mdct.specs.Imdct.{half_of, imdct, imdct_reply, imdct_sum};
 

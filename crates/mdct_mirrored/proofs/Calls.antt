@@ -7,7 +7,7 @@ use lib.ListN.{length}
 use lib.Ieee.{Float}
 use borrow.Author.Tests.{eq-eqb}
 use Rattle.loops.specs.Logic.{and_both}
-use Rattle.loops.specs.Reply.{reply, reply-lent, reply-yes, reply-no}
+use Rattle.reply.specs.Reply.{reply, reply-lent, reply-yes, reply-no}
 use Rattle.cosine_circle.specs.Circle.{is_frame_size}
 use Rattle.mdct.specs.Imdct.{imdct, takes-frame, takes-no-size, takes-no-room}
 use Rattle.mdct_work.specs.Work.{total, pair_sums, values}

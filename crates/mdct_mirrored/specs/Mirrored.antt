@@ -2,7 +2,7 @@
 use Rattle.std.specs.Prelude.{List, ◌++◌, map, cond, ℕ, ◌+◌, ◌*◌, ◌-◌, ◌/◌, ltb, length, get_or, Float}
 use Rattle.std.specs.Float.{nan}
 use Rattle.loops.specs.Front.{tab}
-use Rattle.loops.specs.Reply.{Reply, reply_if}
+use Rattle.reply.specs.Reply.{Reply, reply_if}
 use Rattle.float_sign.specs.Turned.{turned}
 use Rattle.mdct.specs.Imdct.{half_of, imdct_takes}
 use Rattle.mdct_work.specs.Work.{total, all_sums, pair_sums, values}

@@ -4,7 +4,7 @@
 
 ghost use Rattle.std.specs.Prelude.{◌≡◌, ◌*◌, ◌%◌, ◌<◌, length, get_or};
 ghost use Rattle.std.specs.Float.{nan};
-ghost use Rattle.loops.specs.Reply.{reply};
+ghost use Rattle.reply.specs.Reply.{reply};
 ghost use Rattle.mdct_mirrored.specs.Mirrored.{odd_at, even_at, mirrored_outputs, transformed, mirrored_reply};
 
 use cosine_circle::is_frame_size;

@@ -1,6 +1,6 @@
 -- What `pair_sums` leaves.
 use Rattle.std.specs.Prelude.{List, Bool, ◌&&◌, ℕ, eqb, length, Float}
-use Rattle.loops.specs.Reply.{Reply, reply_if}
+use Rattle.reply.specs.Reply.{Reply, reply_if}
 use Rattle.cosine_circle.specs.Circle.{is_frame_size}
 use Rattle.mdct_work.specs.Work.{values, total, pair_sums}
 

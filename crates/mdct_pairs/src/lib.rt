@@ -3,7 +3,7 @@
 #![tactic(auto)]
 
 ghost use Rattle.std.specs.Prelude.{◌≡◌, true, ◌*◌, length};
-ghost use Rattle.loops.specs.Reply.{reply};
+ghost use Rattle.reply.specs.Reply.{reply};
 ghost use Rattle.cosine_circle.specs.Circle.{is_frame_size};
 ghost use Rattle.mdct_pairs.specs.Pairs.{pair_reply, summed};
 ghost use Rattle.mdct_work.specs.Work.{values, total, pair_sums};

@@ -12,7 +12,7 @@ use lib.Ieee.{Float}
 use borrow.Author.Tests.{leb-true, ltb-true, eq-eqb, ne_eqb}
 use Rattle.loops.specs.Front.{tab}
 use Rattle.loops.specs.Logic.{and-true, and_first, and_second}
-use Rattle.loops.specs.Reply.{reply, reply_if, reply-yes, reply-no}
+use Rattle.reply.specs.Reply.{reply, reply_if, reply-yes, reply-no}
 use Rattle.buffers.specs.Buffers.{zero32}
 use Rattle.cosine_circle.specs.Circle.{is_frame_size, size-is-frame}
 use Rattle.mdct.specs.Imdct.{imdct}

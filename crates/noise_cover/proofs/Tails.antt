@@ -11,7 +11,7 @@ use lib.Ieee.{Float}
 use borrow.Author.Tests.{le-leb, eq-eqb}
 use Rattle.loops.specs.Logic.{and_both}
 use Rattle.loops.specs.Part.{put, drop-slice}
-use Rattle.loops.specs.Reply.{reply, reply_if, reply-lent}
+use Rattle.reply.specs.Reply.{reply, reply_if, reply-lent}
 use Rattle.history.specs.History.{half, samples, overlap, channel, tail_at, tail_list}
 use Rattle.history.proofs.Parts.{slice-take, put-inner}
 use Rattle.noise_cover.specs.Cover.{overlapped, covered_tail, lay_takes}

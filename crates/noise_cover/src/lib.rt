@@ -3,7 +3,7 @@
 #![tactic(auto)]
 
 ghost use Rattle.std.specs.Prelude.{◌≡◌, ◌++◌, ◌-◌, length, drop};
-ghost use Rattle.loops.specs.Reply.{reply, reply_if};
+ghost use Rattle.reply.specs.Reply.{reply, reply_if};
 ghost use Rattle.history.specs.History.{overlap};
 ghost use Rattle.noise_cover.specs.Cover.{overlapped, lay_takes};
 

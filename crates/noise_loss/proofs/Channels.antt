@@ -10,7 +10,7 @@ use lib.Ieee.{Float}
 use borrow.Author.Tests.{le-leb, lt-ltb, eq-eqb, ne_eqb}
 use Rattle.loops.specs.Logic.{and_both, and_first, and_second}
 use Rattle.loops.specs.Part.{put}
-use Rattle.loops.specs.Reply.{reply, reply_if, reply-lent}
+use Rattle.reply.specs.Reply.{reply, reply_if, reply-lent}
 use Rattle.history.specs.History.{half, samples, overlap, channel, whole, Tail, Tails, tail_at, tails, with_tails, tail_list}
 use Rattle.history.proofs.Parts.{TailSized, Sized, first-sized, second-sized, tails-with, put_first, put_both}
 use Rattle.settings.specs.Settings.{factor, frame, stereo, check_settings}

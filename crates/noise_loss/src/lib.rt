@@ -4,7 +4,7 @@
 
 ghost use Rattle.std.specs.Prelude.{◌≡◌, ◌+◌, ◌≤◌, length};
 ghost use Rattle.loops.specs.Part.{put};
-ghost use Rattle.loops.specs.Reply.{reply, reply_if};
+ghost use Rattle.reply.specs.Reply.{reply, reply_if};
 ghost use Rattle.custom_mode.specs.Mode.{max_bands};
 ghost use Rattle.history.specs.History.{half, overlap, channel, whole, tail_at, tail_list};
 ghost use Rattle.settings.specs.Settings.{frame, check_settings};

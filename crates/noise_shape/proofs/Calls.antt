@@ -10,7 +10,7 @@ use lib.Ieee.{Float}
 use borrow.Author.Tests.{leb-true, le-leb}
 use Rattle.custom_mode.specs.Mode.{edge}
 use Rattle.loops.specs.Logic.{and-true}
-use Rattle.loops.specs.Reply.{Reply, reply, reply_if, reply-lent, reply-yes, reply-no}
+use Rattle.reply.specs.Reply.{Reply, reply, reply_if, reply-lent, reply-yes, reply-no}
 use Rattle.noise_shape.specs.Shape.{lo, band_in, Shape, shaped, noise_shape, shape_takes}
 
 pub fits : (m start size : ℕ) → shape_takes m start size ≡ true → (m ≤ 8) × (start ≤ 21) × (m * 100 ≤ size)

@@ -3,7 +3,7 @@
 #![tactic(auto)]
 
 ghost use Rattle.std.specs.Prelude.{◌≡◌, ◌*◌, ◌≤◌, length};
-ghost use Rattle.loops.specs.Reply.{reply, reply_if};
+ghost use Rattle.reply.specs.Reply.{reply, reply_if};
 ghost use Rattle.draw.specs.Draw.{draws};
 ghost use Rattle.custom_mode.specs.Mode.{bands, last_edge};
 ghost use Rattle.noise_shape.specs.Shape.{band_noise, shaped, noise_shape, shape_takes};

@@ -11,7 +11,7 @@ use lib.Ieee.{Float}
 use borrow.Author.Tests.{leb-true, le-leb, eq-eqb, ne_eqb}
 use Rattle.loops.specs.Fold.{fold_range}
 use Rattle.loops.specs.Logic.{and-true, and_first, and_second}
-use Rattle.loops.specs.Reply.{reply, reply_if, reply-lent, reply-yes, reply-no}
+use Rattle.reply.specs.Reply.{reply, reply_if, reply-lent, reply-yes, reply-no}
 use Rattle.buffers.specs.Buffers.{zero32}
 use Rattle.noise_shape.specs.Shape.{Shape, shaped, noise_shape}
 use Rattle.noise_spectrum.specs.Spectrum.{gain_turn, bound, cleared, spectrum, spectrum_over, spectrum_fits, spectrum_takes}

@@ -5,7 +5,7 @@
 ghost use Rattle.std.specs.Prelude.{◌≡◌, ◌*◌, ◌≤◌, length};
 ghost use Rattle.custom_mode.specs.Mode.{short_block, bands, max_bands, last_edge};
 ghost use Rattle.loops.specs.Fold.{fold_range};
-ghost use Rattle.loops.specs.Reply.{reply, reply_if};
+ghost use Rattle.reply.specs.Reply.{reply, reply_if};
 ghost use Rattle.noise_shape.specs.Shape.{shaped};
 ghost use Rattle.noise_spectrum.specs.Spectrum.{gain_turn, bound, spectrum_over, spectrum_fits, spectrum_takes};
 

@@ -10,7 +10,7 @@ use lib.Seq.{length-take-le}
 use lib.Ieee.{Float}
 use borrow.Author.Tests.{eq-eqb}
 use Rattle.loops.specs.Logic.{and_both}
-use Rattle.loops.specs.Reply.{reply, reply_if, reply-lent}
+use Rattle.reply.specs.Reply.{reply, reply_if, reply-lent}
 use Rattle.history.specs.History.{half, samples, channel, whole}
 use Rattle.history.proofs.Parts.{slice-take}
 use Rattle.plc_search.specs.Search.{pitch_search}

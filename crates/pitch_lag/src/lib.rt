@@ -3,7 +3,7 @@
 #![tactic(auto)]
 
 ghost use Rattle.std.specs.Prelude.{◌≡◌, eqb, length};
-ghost use Rattle.loops.specs.Reply.{reply, reply_if};
+ghost use Rattle.reply.specs.Reply.{reply, reply_if};
 ghost use Rattle.history.specs.History.{whole};
 ghost use Rattle.pitch_lag.specs.Lag.{low_passed, lag_of};
 

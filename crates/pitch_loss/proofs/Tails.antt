@@ -15,7 +15,7 @@ use borrow.Author.Tests.{eqb-true, leb-true, eq-eqb, le-leb}
 use Rattle.copying.specs.Copy.{copied, copied_all}
 use Rattle.loops.specs.Logic.{and-true, and_both, cond_either}
 use Rattle.loops.specs.Part.{put, length-put}
-use Rattle.loops.specs.Reply.{reply, reply_if, reply-lent}
+use Rattle.reply.specs.Reply.{reply, reply_if, reply-lent}
 use Rattle.history.specs.History.{half, overlap, channel, whole, Tail, Tails, tail_at, tails, with_tails, tail_list, tail_of}
 use Rattle.history.specs.History as History
 use Rattle.history.proofs.Parts.{TailSized, Sized, slice-take, tails-sized, lent-first, lent-second, tail_of-list, with-length, tails-with, put_first, put_both}

@@ -3,7 +3,7 @@
 #![tactic(auto)]
 
 ghost use Rattle.std.specs.Prelude.{◌≡◌, length};
-ghost use Rattle.loops.specs.Reply.{reply, reply_if};
+ghost use Rattle.reply.specs.Reply.{reply, reply_if};
 ghost use Rattle.history.specs.History.{tails, with_tails};
 ghost use Rattle.settings.specs.Settings.{frame, stereo};
 ghost use Rattle.pitch_loss.specs.PitchLoss.{pitch_tails, pitch_takes};

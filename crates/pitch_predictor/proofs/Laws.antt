@@ -11,7 +11,7 @@ use lib.Ieee.{Float}
 use borrow.Author.Tests.{eq-eqb}
 use Rattle.loops.specs.Logic.{and_both}
 use Rattle.loops.specs.Part.{put}
-use Rattle.loops.specs.Reply.{reply, reply_if, reply-lent}
+use Rattle.reply.specs.Reply.{reply, reply_if, reply-lent}
 use Rattle.history.specs.History.{half, samples, channel, whole, tail_at, tails}
 use Rattle.history.proofs.Parts.{slice-take}
 use Rattle.pitch_fit.specs.Fit.{order, pitch_fit, length-pitch_fit, fit_takes}

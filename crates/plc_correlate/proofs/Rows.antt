@@ -10,7 +10,7 @@ use lib.ListN.{length, get_or, take, drop, length-drop, replicate, length-replic
 use lib.Seq.{get_or-drop, take_all}
 use borrow.Author.Tests.{le-leb}
 use Rattle.loops.specs.Front.{front, tab, tab-same, tab-list, tab-read, get_or-tab, length-tab}
-use Rattle.loops.specs.Reply.{reply, reply_if, reply-lent}
+use Rattle.reply.specs.Reply.{reply, reply_if, reply-lent}
 use Rattle.loops.specs.Sum.{sum-none, sum_more, sum_same}
 use Rattle.buffers.specs.Buffers.{zero32}
 use Rattle.float_extremes.specs.Extremes.{max_of}

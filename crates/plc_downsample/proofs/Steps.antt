@@ -9,7 +9,7 @@ use lib.ListN.{length}
 use borrow.Author.Tests.{eq-eqb, ne_eqb}
 use Rattle.loops.specs.Front.{length-tab}
 use Rattle.loops.specs.Logic.{and_first, and_second, and_both}
-use Rattle.loops.specs.Reply.{reply, reply_if, reply-lent}
+use Rattle.reply.specs.Reply.{reply, reply_if, reply-lent}
 use Rattle.plc_whiten.specs.Whiten.{whiten_lp}
 use Rattle.plc_downsample.specs.Downsample.{smoothed, smoothed_pair, pitch_downsample, pitch_downsample_pair, downsample_takes, downsample_pair_takes}
 

@@ -3,7 +3,7 @@
 #![tactic(auto)]
 
 ghost use Rattle.std.specs.Prelude.{◌≡◌, ◌<◌, length};
-ghost use Rattle.loops.specs.Reply.{reply, reply_if};
+ghost use Rattle.reply.specs.Reply.{reply, reply_if};
 ghost use Rattle.plc_downsample.specs.Downsample.{smoothed_at, smoothed, smoothed_pair};
 ghost use Rattle.plc_downsample.specs.Downsample.{downsample_takes, pitch_downsample, downsample_pair_takes, pitch_downsample_pair};
 

@@ -11,7 +11,7 @@ use lib.Ieee.{Float, nan, binary32, mul}
 use borrow.Author.Tests.{eq-eqb, ne_eqb, le-leb, lt-leb}
 use Rattle.loops.specs.Front.{tab, length-tab, get_or-tab, tab-same}
 use Rattle.loops.specs.Part.{put}
-use Rattle.loops.specs.Reply.{reply, reply_if}
+use Rattle.reply.specs.Reply.{reply, reply_if}
 use Rattle.loops.specs.Sum.{sum_to, sum_same}
 use Rattle.plc_pad.specs.Past.{past}
 use Rattle.plc_pad.specs.Pad.{Remembers, Holds, tap, taps_row}

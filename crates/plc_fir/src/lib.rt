@@ -4,7 +4,7 @@
 
 ghost use Rattle.std.specs.Prelude.{◌≡◌, ◌+◌, ◌-◌, ◌≤◌, ◌<◌, length};
 ghost use Rattle.loops.specs.Front.{tab};
-ghost use Rattle.loops.specs.Reply.{reply, reply_if};
+ghost use Rattle.reply.specs.Reply.{reply, reply_if};
 ghost use Rattle.plc_fir.specs.Fir.{celt_fir, celt_fir_from, fir_takes};
 ghost use Rattle.plc_pad.specs.Pad.{Remembers, Holds, taps_row};
 

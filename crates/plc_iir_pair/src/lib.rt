@@ -3,7 +3,7 @@
 #![tactic(auto)]
 
 ghost use Rattle.std.specs.Prelude.{◌≡◌, ◌+◌, ◌-◌, ◌≤◌, ◌<◌, length};
-ghost use Rattle.loops.specs.Reply.{reply, reply_if};
+ghost use Rattle.reply.specs.Reply.{reply, reply_if};
 ghost use Rattle.plc_pad.specs.Pad.{taps_taken};
 ghost use Rattle.plc_iir.specs.Iir.{celt_iir};
 ghost use Rattle.plc_iir_pair.specs.Pair.{channels, iir_pair_takes};

@@ -10,7 +10,7 @@ use lib.Seq.{get_or-set_same, get_or-set_other}
 use lib.Ieee.{Float, nan}
 use borrow.Author.Tests.{eqb-true, eqb-false, ltb-true, ltb-false, le-leb, lt-leb}
 use Rattle.loops.specs.Fold.{fold_to, fold-keeps}
-use Rattle.loops.specs.Reply.{reply, reply_if, reply-lent}
+use Rattle.reply.specs.Reply.{reply, reply_if, reply-lent}
 use Rattle.plc_pad.specs.Past.{past}
 use Rattle.plc_pad.specs.Pad.{Remembers, Holds, remembered_to, remembered, pad_takes}
 

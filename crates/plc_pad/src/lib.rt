@@ -3,8 +3,10 @@
 #![tactic(auto)]
 
 ghost use Rattle.std.specs.Prelude.{◌≡◌, ◌-◌, ◌<◌, length};
-ghost use Rattle.loops.specs.Reply.{reply, reply_if};
+ghost use Rattle.reply.specs.Reply.{replied, reply_if};
 ghost use Rattle.plc_pad.specs.Pad.{remembered, pad_takes};
+
+use reply::Refused;
 
 // The order of the filters: at most so many values are remembered.
 pub const ORDER: usize = 24;
@@ -12,20 +14,15 @@ pub const ORDER: usize = 24;
 pub const NEWEST: usize = 23;
 
 // Puts mem, the most recent first, before place 24 of pad. More than 24 values and a shorter pad are refused, and pad stays.
-pub fn remember(pad: &mut [f32], mem: &[f32]) -> bool
-    ensures { reply result pad.new
+pub fn remember(pad: &mut [f32], mem: &[f32]) -> Result<(), Refused>
+    ensures { replied result pad.new
         ≡ reply_if (pad_takes (length pad.old) (length mem.now)) (remembered mem.now pad.old) pad.old }
 {
-    let n = pad.len();
-    let ord = mem.len();
-    if n < ORDER {
-        return false;
+    if pad.len() < ORDER || ORDER < mem.len() {
+        return Err(Refused);
     }
-    if ORDER < ord {
-        return false;
+    for (k, value) in mem.iter().enumerate() {
+        pad[NEWEST - k] = *value;
     }
-    for k in 0..ord {
-        pad[NEWEST - k] = mem[k];
-    }
-    true
+    Ok(())
 }

@@ -11,7 +11,7 @@ use borrow.Author.Tests.{le-leb, lt-leb, leb-true, lt-ltb}
 use Rattle.loops.specs.Front.{tab, tab-same, get_or-tab}
 use Rattle.loops.specs.Logic.{and-true, and_second}
 use Rattle.loops.specs.Pick.{pick_true, pick-false}
-use Rattle.loops.specs.Reply.{reply, reply_if}
+use Rattle.reply.specs.Reply.{reply, reply_if}
 use Rattle.buffers.specs.Buffers.{zero32}
 use Rattle.plc_search.specs.Search.{near, fine_at, interpolated, refined}
 use Rattle.plc_correlate.specs.Correlation.{correlation, correlate_takes}

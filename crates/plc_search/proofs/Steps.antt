@@ -8,7 +8,7 @@ use lib.Ieee.{Float, nan}
 use lib.ListN.{length, take, drop}
 use lib.Seq.{get_or-take, length-take-le, ext_get_or}
 use Rattle.loops.specs.Front.{tab, get_or-tab, length-tab}
-use Rattle.loops.specs.Reply.{reply, reply_if}
+use Rattle.reply.specs.Reply.{reply, reply_if}
 use Rattle.plc_best.specs.declared.Best.{Best}
 use Rattle.plc_best.specs.declared.Pitches.{Pitches}
 use Rattle.plc_best.specs.declared.Pitches.TheVariants.{Pair}

@@ -6,7 +6,7 @@ use lib.Dec.{leb, eqb}
 use lib.Ieee.{Float}
 use lib.ListN.{length, replicate}
 use Rattle.loops.specs.Front.{length-tab}
-use Rattle.loops.specs.Reply.{reply, reply_if, reply-lent}
+use Rattle.reply.specs.Reply.{reply, reply_if, reply-lent}
 use Rattle.buffers.specs.Buffers.{zero32}
 use Rattle.plc.specs.Autocorr.{celt_autocorr, length-celt_autocorr}
 use Rattle.plc_lag_window.specs.LagWindow.{lag_window, length-lag_window}

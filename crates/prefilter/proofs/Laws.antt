@@ -10,7 +10,7 @@ use lib.Dec.{eqb}
 use lib.Ieee.{Float}
 use borrow.Author.Tests.{eq-eqb}
 use Rattle.loops.specs.Logic.{and_both}
-use Rattle.loops.specs.Reply.{reply, reply_if, reply-lent}
+use Rattle.reply.specs.Reply.{reply, reply_if, reply-lent}
 use Rattle.loops.specs.Pick.{pick_true, pick-false}
 use Rattle.copying.specs.Copy.{copied, copied_all}
 use Rattle.post_filter.specs.declared.Filter.{Filter}

@@ -4,7 +4,7 @@
 
 ghost use Rattle.std.specs.Prelude.{◌≡◌, ◌+◌, ◌*◌, ◌≤◌, length, set};
 ghost use Rattle.loops.specs.Part.{put};
-ghost use Rattle.loops.specs.Reply.{reply, reply_if};
+ghost use Rattle.reply.specs.Reply.{reply, reply_if};
 ghost use Rattle.words.specs.Bytes.{holds, byte_of, words_bytes, floats_bytes};
 
 // The four bytes of w from place k on.

@@ -8,7 +8,7 @@ use lib.ListN.{length}
 use lib.Dec.{eqb}
 use lib.Ieee.{Float}
 use borrow.Author.Tests.{le-leb, eq-eqb, eqb-false}
-use Rattle.loops.specs.Reply.{reply, reply_if, reply-lent}
+use Rattle.reply.specs.Reply.{reply, reply_if, reply-lent}
 use Rattle.history.specs.History.{whole, tails, with_tails}
 use Rattle.settings.specs.Settings.{frame, stereo, check_settings}
 use Rattle.state.specs.State.{core, noisy}

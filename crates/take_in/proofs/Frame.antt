@@ -10,7 +10,7 @@ use lib.Seq.{slice, length-slice, length-take-le, take_at, drop_at}
 use lib.Ieee.{Float}
 use borrow.Author.Tests.{eqb-true, leb-true, eq-eqb, le-leb}
 use Rattle.loops.specs.Logic.{and-true, and_both}
-use Rattle.loops.specs.Reply.{reply, reply_if, reply-lent}
+use Rattle.reply.specs.Reply.{reply, reply_if, reply-lent}
 use Rattle.history.specs.History.{half, overlap, Tail, tail_list, tail_of}
 use Rattle.history.proofs.Parts.{TailSized}
 use Rattle.celt_window.specs.Window.{window}

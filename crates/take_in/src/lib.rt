@@ -3,7 +3,7 @@
 #![tactic(auto)]
 
 ghost use Rattle.std.specs.Prelude.{◌≡◌, true, ◌+◌, ◌≤◌, length};
-ghost use Rattle.loops.specs.Reply.{reply, reply_if};
+ghost use Rattle.reply.specs.Reply.{reply, reply_if};
 ghost use Rattle.history.specs.History.{half, overlap, tail_of, tail_list};
 ghost use Rattle.post_filter.specs.Limits.{filter_fits};
 ghost use Rattle.take_in.specs.TakeIn.{longest_frame, extra, tail_after, tail_takes};

@@ -9,7 +9,7 @@ use lib.ListN.{length, get_or, set}
 use lib.Dec.{leb}
 use borrow.Author.Tests.{le-leb, lt-leb, leb-true, leb-false}
 use Rattle.loops.specs.Part.{put}
-use Rattle.loops.specs.Reply.{reply, reply_if, reply-lent}
+use Rattle.reply.specs.Reply.{reply, reply_if, reply-lent}
 use Rattle.loops.specs.Pick.{pick_true, pick-false}
 use Rattle.loops.specs.Front.{tab, length-tab, front, tab-none, tab-more, tab-all}
 use Rattle.words.specs.Bytes.{holds, word_at, byte_of, bytes_by}

@@ -2,7 +2,7 @@
 use mathlib.Core.Path.{◌∙◌, sym}
 use borrow.Author.Tests.{eq-eqb, ne_eqb}
 use Rattle.loops.specs.Pick.{pick_true, pick-false}
-use Rattle.loops.specs.Reply.{reply-lent}
+use Rattle.reply.specs.Reply.{reply-lent}
 use Rattle.put_record.proofs.Parts.{is-writable}
 use Rattle.answer.proofs.keep_record.Goals as goal
 

@@ -9,7 +9,7 @@ use lib.Ieee.{Float}
 use borrow.Author.Rules.{rules}
 use borrow.Author.Tests.{eq-eqb, ne_eqb}
 use Rattle.loops.specs.Logic.{and_both, and_first, and_second}
-use Rattle.loops.specs.Reply.{reply-yes, reply-no}
+use Rattle.reply.specs.Reply.{reply-yes, reply-no}
 use Rattle.post_filter.specs.Limits.{filter_fits, fits_each}
 use Rattle.history.specs.History.{half, overlap}
 use Rattle.comb_filter.specs.Comb.{comb_takes}

@@ -5,7 +5,7 @@ use Prim.Native.Nat.{◌-◌}
 use native.Mathlib.Omega.{arith}
 use native.Mathlib.Nat.{le_antisymm}
 use borrow.Author.Rules.{rules}
-use Rattle.loops.specs.Reply.{reply-yes, reply-no}
+use Rattle.reply.specs.Reply.{reply-yes, reply-no}
 use Rattle.cosine_circle.specs.Circle.{is_frame_size}
 use Rattle.cosine_circle.proofs.Sizes.{sized, at_most}
 use Rattle.cosine_pairs.specs.Pairs.{pairs_reply}

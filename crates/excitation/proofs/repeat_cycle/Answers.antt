@@ -4,7 +4,7 @@ use Prim.Native.Nat.{◌-◌, ◌*◌}
 use lib.ListN.{length}
 use borrow.Author.Rules.{rules}
 use borrow.Author.Tests.{ne_eqb}
-use Rattle.loops.specs.Reply.{reply-no}
+use Rattle.reply.specs.Reply.{reply-no}
 use Rattle.history.specs.History.{half}
 use Rattle.plc_fir.specs.Fir.{celt_fir_from}
 use Rattle.periodic_copy.specs.Copy.{cycle_takes}

@@ -1,6 +1,6 @@
 use mathlib.Core.Path.{refl, ◌∙◌, sym}
 use lib.ListN.{length}
-use Rattle.loops.specs.Reply.{reply-yes, reply-no}
+use Rattle.reply.specs.Reply.{reply-yes, reply-no}
 use Rattle.extrapolate.specs.Extrapolate.{extrapolated}
 use Rattle.extrapolate.proofs.Steps.{Fits, takes-fits, extrapolate_is}
 use Rattle.extrapolate.proofs.extrapolate.Goals as goal

@@ -1,7 +1,7 @@
 use mathlib.Core.Path.{refl, ◌∙◌, sym}
 use mathlib.Core.Bool.{true}
 use lib.ListN.{length}
-use Rattle.loops.specs.Reply.{reply-yes, reply-no}
+use Rattle.reply.specs.Reply.{reply-yes, reply-no}
 use Rattle.plc_iir_pair.specs.Pair.{channels}
 use Rattle.extrapolate.specs.Extrapolate.{extrapolated, extrapolate_pair_takes}
 use Rattle.extrapolate.proofs.Steps.{pair_fits, pair_is}

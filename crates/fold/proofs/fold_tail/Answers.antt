@@ -4,7 +4,7 @@ use lib.Dec.{eqb}
 use borrow.Author.Rules.{rules}
 use borrow.Author.Tests.{eq-eqb, ne_eqb}
 use Rattle.loops.specs.Logic.{and_both, and_first, and_second}
-use Rattle.loops.specs.Reply.{reply-yes, reply-no}
+use Rattle.reply.specs.Reply.{reply-yes, reply-no}
 use Rattle.history.specs.History.{overlap}
 use Rattle.fold.specs.Fold.{folded, fold_takes}
 use Rattle.fold.proofs.fold_tail.Goals as goal

@@ -1,5 +1,5 @@
 use mathlib.Core.Path.{refl, ◌∙◌, sym}
-use Rattle.loops.specs.Reply.{reply-yes, reply-no}
+use Rattle.reply.specs.Reply.{reply-yes, reply-no}
 use Rattle.frame_sound.specs.FrameSound.{frame_sound, sound_in}
 use Rattle.frame_sound.proofs.Takes.{takes-each}
 use Rattle.frame_sound.proofs.frame_sound.Goals as goal

@@ -7,7 +7,7 @@ use mathlib.Core.Bool.{true, false}
 use lib.Ieee.{Float}
 use borrow.Author.Tests.{eq-eqb, ne_eqb}
 use Rattle.loops.specs.Logic.{and_both, and_first, and_second}
-use Rattle.loops.specs.Reply.{reply, reply-yes, reply-no}
+use Rattle.reply.specs.Reply.{reply, reply-yes, reply-no}
 use Rattle.cosine_circle.specs.Circle.{is_frame_size}
 use Rattle.mdct_work.specs.Work.{total, pair_sums, values}
 use Rattle.mdct_pairs.specs.Pairs.{pair_takes, pair_reply, summed}

@@ -5,7 +5,7 @@ use Prim.Native.Nat.{ℕ, ◌*◌}
 use lib.ListN.{length}
 use mathlib.Core.Bool.{Bool, true}
 use lib.Ieee.{Float}
-use Rattle.loops.specs.Reply.{reply, reply-lent}
+use Rattle.reply.specs.Reply.{reply, reply-lent}
 use Rattle.cosine_circle.specs.Circle.{is_frame_size}
 use Rattle.cosine_circle.proofs.Sizes.{sized, at_most}
 use Rattle.cosine_pairs.specs.Pairs.{pairs_of, pairs_reply}

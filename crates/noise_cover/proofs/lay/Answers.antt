@@ -7,7 +7,7 @@ use borrow.Author.Rules.{rules}
 use borrow.Author.Tests.{le-leb, lt-leb, eq-eqb, ne_eqb}
 use Rattle.loops.specs.Front.{front, tab, tab-none, tab-more}
 use Rattle.loops.specs.Logic.{and_both, and_first, and_second}
-use Rattle.loops.specs.Reply.{reply-yes, reply-no}
+use Rattle.reply.specs.Reply.{reply-yes, reply-no}
 use Rattle.history.specs.History.{overlap}
 use Rattle.noise_cover.specs.Cover.{lay_takes}
 use Rattle.noise_cover.proofs.Laws.{sum_at, sum-at, lay_is}

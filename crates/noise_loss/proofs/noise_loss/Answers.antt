@@ -1,6 +1,6 @@
 use mathlib.Core.Path.{refl, ◌∙◌, sym}
 use lib.ListN.{length}
-use Rattle.loops.specs.Reply.{reply-yes, reply-no}
+use Rattle.reply.specs.Reply.{reply-yes, reply-no}
 use Rattle.settings.proofs.Passed.{good}
 use Rattle.noise_loss.proofs.Channels.{takes_whole, takes-no_settings, takes-not-whole}
 use Rattle.noise_loss.proofs.noise_loss.Goals as goal

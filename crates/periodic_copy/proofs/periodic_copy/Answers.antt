@@ -5,7 +5,7 @@ use lib.ListN.{length}
 use borrow.Author.Rules.{rules}
 use borrow.Author.Tests.{eq-eqb, ne_eqb, le-leb, lt-leb}
 use Rattle.history.specs.History.{half}
-use Rattle.loops.specs.Reply.{reply-yes, reply-no}
+use Rattle.reply.specs.Reply.{reply-yes, reply-no}
 use Rattle.periodic_copy.specs.Copy.{periodic_copy, copied_energy, cycle, cycle_takes}
 use Rattle.periodic_copy.proofs.periodic_copy.Goals as goal
 

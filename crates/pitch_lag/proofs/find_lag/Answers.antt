@@ -2,7 +2,7 @@ use mathlib.Core.Path.{◌≡◌, refl}
 use lib.ListN.{length}
 use borrow.Author.Rules.{rules}
 use borrow.Author.Tests.{eq-eqb, ne_eqb}
-use Rattle.loops.specs.Reply.{reply-yes, reply-no}
+use Rattle.reply.specs.Reply.{reply-yes, reply-no}
 use Rattle.history.specs.History.{whole}
 use Rattle.pitch_lag.proofs.Laws.{search-most, lag_is}
 use Rattle.pitch_lag.proofs.find_lag.Goals as goal

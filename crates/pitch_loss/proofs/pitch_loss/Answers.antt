@@ -1,7 +1,7 @@
 use mathlib.Core.Path.{refl, ◌∙◌, sym}
 use mathlib.Core.Bool.{true, false}
 use borrow.Author.Tests.{eq-eqb, ne_eqb}
-use Rattle.loops.specs.Reply.{reply-yes, reply-no}
+use Rattle.reply.specs.Reply.{reply-yes, reply-no}
 use Rattle.settings.specs.Settings.{stereo}
 use Rattle.pitch_loss.proofs.Tails.{takes-fits, frame-fits, used-is}
 use Rattle.pitch_loss.proofs.pitch_loss.Goals as goal

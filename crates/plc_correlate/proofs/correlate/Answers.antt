@@ -6,7 +6,7 @@ use Prim.Native.Nat.{◌+◌, ◌-◌}
 use lib.ListN.{length, length-set}
 use borrow.Author.Rules.{rules}
 use borrow.Author.Tests.{le-leb, lt-leb}
-use Rattle.loops.specs.Reply.{reply-yes, reply-no}
+use Rattle.reply.specs.Reply.{reply-yes, reply-no}
 use Rattle.plc_correlate.proofs.correlate.Goals as goal
 
 pub returns-then-y-x : goal.returns-then-y-x

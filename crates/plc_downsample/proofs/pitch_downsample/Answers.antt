@@ -1,4 +1,4 @@
-use Rattle.loops.specs.Reply.{reply-yes, reply-no}
+use Rattle.reply.specs.Reply.{reply-yes, reply-no}
 use Rattle.plc_downsample.proofs.Steps.{one-done, takes, refuses_x, refuses_lp}
 use mathlib.Core.Path.{refl}
 use lib.ListN.{length}

@@ -1,4 +1,4 @@
-use Rattle.loops.specs.Reply.{reply-yes, reply-no}
+use Rattle.reply.specs.Reply.{reply-yes, reply-no}
 use Rattle.plc_downsample.proofs.Steps.{pair-done, takes-pair, refuses_x0, refuses_x1, refuses_pair-lp}
 use mathlib.Core.Path.{refl}
 use lib.ListN.{length}

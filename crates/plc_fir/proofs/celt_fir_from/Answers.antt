@@ -2,7 +2,7 @@
 use mathlib.Core.Path.{refl}
 use lib.ListN.{length}
 use borrow.Author.Rules.{rules}
-use Rattle.loops.specs.Reply.{reply-yes, reply-no}
+use Rattle.reply.specs.Reply.{reply-yes, reply-no}
 use Rattle.plc_fir.specs.Fir.{celt_fir_from}
 use Rattle.plc_fir.proofs.Firs.{fir_none, fir_unlike, fir_order, fir_long, fir_takes_lem}
 use Rattle.plc_fir.proofs.celt_fir_from.Goals as goal

@@ -4,7 +4,7 @@ use Prim.Native.Nat.{◌-◌}
 use lib.ListN.{length}
 use borrow.Author.Rules.{rules}
 use borrow.Author.Tests.{le-leb, lt-leb}
-use Rattle.loops.specs.Reply.{reply-yes, reply-no}
+use Rattle.reply.specs.Reply.{reply-yes, reply-no}
 use lib.Ieee.{binary32, of_bits}
 use Rattle.plc_pad.proofs.Taps.{remembers_all}
 use Rattle.plc_iir.proofs.Iirs.{filtered-none, filtered-more, filtered-all}

@@ -3,7 +3,7 @@ use mathlib.Core.Path.{refl, ap₂}
 use Prim.Native.Nat.{◌-◌}
 use lib.ListN.{length}
 use borrow.Author.Rules.{rules}
-use Rattle.loops.specs.Reply.{reply-yes, reply-no}
+use Rattle.reply.specs.Reply.{reply-yes, reply-no}
 use Rattle.plc_iir_pair.specs.Pair.{channels}
 use lib.Ieee.{binary32, of_bits}
 use Rattle.plc_pad.proofs.Taps.{remembers_all}

@@ -1,4 +1,4 @@
-use Rattle.loops.specs.Reply.{reply-yes, reply-no}
+use Rattle.reply.specs.Reply.{reply-yes, reply-no}
 use Rattle.loops.specs.Front.{tab-none, tab-more, tab-read, tab-all}
 use Rattle.plc_lag_window.specs.LagWindow.{lag_value, lag_window}
 use borrow.Author.Tests.{le-leb, lt-leb}

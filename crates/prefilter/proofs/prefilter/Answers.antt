@@ -5,7 +5,7 @@ use lib.Dec.{eqb}
 use borrow.Author.Rules.{rules}
 use borrow.Author.Tests.{eq-eqb, ne_eqb}
 use Rattle.loops.specs.Logic.{and_both, and_first, and_second}
-use Rattle.loops.specs.Reply.{reply-yes, reply-no}
+use Rattle.reply.specs.Reply.{reply-yes, reply-no}
 use mathlib.Core.Bool.{true}
 use Rattle.post_filter.specs.Limits.{filter_fits}
 use Rattle.history.specs.History.{half, overlap}

@@ -7,7 +7,7 @@ use borrow.Author.Rules.{rules}
 use Rattle.record.specs.Record.{record_length}
 use Rattle.history.specs.History.{whole}
 use Rattle.put_record.proofs.Parts.{record-parts, is-writable, not-a-record, not-a_history}
-use Rattle.loops.specs.Reply.{reply-yes, reply-no}
+use Rattle.reply.specs.Reply.{reply-yes, reply-no}
 use Rattle.state_words.specs.Words.{state_length}
 use Rattle.words.proofs.Laws.{put-held}
 use Rattle.put_record.proofs.write_record.Goals as goal

@@ -3,7 +3,7 @@ use Prim.Native.Nat.{◌≤◌}
 use lib.ListN.{length}
 use borrow.Author.Rules.{rules}
 use borrow.Author.Tests.{le-leb, lt-leb}
-use Rattle.loops.specs.Reply.{reply-yes, reply-no}
+use Rattle.reply.specs.Reply.{reply-yes, reply-no}
 use Rattle.roll.proofs.Laws.{roll-is, move-length}
 use Rattle.roll.proofs.roll.Goals as goal
 

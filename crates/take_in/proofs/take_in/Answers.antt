@@ -1,7 +1,7 @@
 use mathlib.Core.Path.{◌≡◌, refl, sym, ◌∙◌}
 use mathlib.Core.Bool.{true}
 use lib.ListN.{length}
-use Rattle.loops.specs.Reply.{reply-yes, reply-no}
+use Rattle.reply.specs.Reply.{reply-yes, reply-no}
 use Rattle.take_in.specs.TakeIn.{tail_takes}
 use Rattle.take_in.proofs.Frame.{takes-fits}
 use Rattle.take_in.proofs.take_in.Goals as goal

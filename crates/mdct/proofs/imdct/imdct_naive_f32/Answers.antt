@@ -4,7 +4,7 @@ use mathlib.Core.Bool.{true}
 use Prim.Native.Nat.{◌*◌}
 use lib.ListN.{length}
 use borrow.Author.Rules.{rules}
-use Rattle.loops.specs.Reply.{reply-yes, reply-no}
+use Rattle.reply.specs.Reply.{reply-yes, reply-no}
 use Rattle.mdct.specs.Imdct.{takes-frame, takes-no-size, takes-no-room, imdct_reply}
 use Rattle.cosine_circle.specs.Circle.{is_frame_size, IsCircle}
 use Rattle.cosine_circle.proofs.Circles.{circle_is}

@@ -2,7 +2,7 @@
 use mathlib.Core.Path.{◌∙◌, sym}
 use borrow.Author.Tests.{eq-eqb}
 use Rattle.loops.specs.Pick.{pick_true}
-use Rattle.loops.specs.Reply.{reply-lent}
+use Rattle.reply.specs.Reply.{reply-lent}
 use Rattle.ref_decode.proofs.pitch.lag_used.Goals as goal
 
 pub returns-then-first : goal.returns-then-first

@@ -1,0 +1,2 @@
+-- What a call that may refuse leaves. Definitions and laws only.
+pub mod Reply

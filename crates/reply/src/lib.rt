@@ -1,0 +1,18 @@
+// What a step answers that takes only some lengths and settings.
+
+#![tactic(auto)]
+
+use std::error::Error;
+use std::fmt;
+
+// A length or a setting that a step does not take: whatever was lent to it is as it was.
+#[derive(Clone, Copy, Debug, PartialEq, Eq)]
+pub struct Refused;
+
+impl fmt::Display for Refused {
+    fn fmt<W: fmt::Write>(&self, f: &mut fmt::Formatter<W>) -> fmt::Result {
+        write!(f, "a length or a setting that the step does not take")
+    }
+}
+
+impl Error for Refused {}
