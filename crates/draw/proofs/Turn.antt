@@ -8,9 +8,9 @@ use Rattle.draw.proofs.Draws.{draws-more}
 use Rattle.draw.specs.Noise.{noise_at}
 
 -- a wrapping product and a wrapping sum are one draw
-pub draw-done : (s p r : ℕ) → p ≡ wrapping_mul s 1_664_525 → r ≡ (p + 1_013_904_223) % 2 ^ 32 → r ≡ draw s
+pub draw-done : (s p : ℕ) → p ≡ wrapping_mul s 1_664_525 → (p + 1_013_904_223) % 2 ^ 32 ≡ draw s
 unfolding draw wrapping_mul
-draw-done s p r e f = f ∙ ap (λ z. (z + 1_013_904_223) % 2 ^ 32) e ∙ wraps (s * 1_664_525)
+draw-done s p e = ap (λ z. (z + 1_013_904_223) % 2 ^ 32) e ∙ wraps (s * 1_664_525)
   where
     wraps : (m : ℕ) → (m % 2 ^ 32 + 1_013_904_223) % 2 ^ 32 ≡ (m + 1_013_904_223) % 2 ^ 32
     wraps m = omega arith
