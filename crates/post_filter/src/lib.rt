@@ -7,7 +7,7 @@ ghost use Rattle.post_filter.specs.Limits.{filter_fits};
 ghost use Rattle.post_filter.specs.Gains.{comb_gains};
 
 // A setting: the gain, the pitch period and which row of tap factors.
-#[derive(Clone, Copy)]
+#[derive(Clone, Copy, Debug, PartialEq)]
 pub struct Filter {
     pub gain: f32,
     pub period: u32,
@@ -21,19 +21,15 @@ pub const PERIOD_MOST: u32 = 1_022;
 pub const TAPSET_MOST: u32 = 2;
 
 // Whether period and tapset are within their limits; the gain may be any.
+#[tactic(auto, using(std::proofs::lemmas::Bool::Decides::nat_tests), unfolding(crate::specs::Limits::filter_fits))]
 pub fn filter_fits(f: Filter) -> bool
     ensures { result ≡ filter_fits f }
 {
-    if f.period < PERIOD_LEAST {
-        return false;
-    }
-    if PERIOD_MOST < f.period {
-        return false;
-    }
-    f.tapset <= TAPSET_MOST
+    (PERIOD_LEAST..=PERIOD_MOST).contains(&f.period) && f.tapset <= TAPSET_MOST
 }
 
 // The tapset's three factors; a tapset above 2 counts as 2.
+#[tactic(auto, using(crate::proofs::Laws::comb_last), unfolding(crate::specs::Gains::comb_gains))]
 pub fn comb_gains(tapset: u32) -> [f32; 3]
     ensures { result ≡ comb_gains tapset }
 {
