@@ -9,19 +9,15 @@ ghost use Rattle.buffers.specs.Buffers.{times, energy};
 pub fn fill(x: &mut [f32], v: f32)
     ensures { x.new ≡ replicate (length x.old) v }
 {
-    let n = x.len();
-    for i in 0..n {
-        x[i] = v;
-    }
+    x.fill(v);
 }
 
 // Each sample times g.
 pub fn scale(x: &mut [f32], g: f32)
     ensures { x.new ≡ map (times g) x.old }
 {
-    let n = x.len();
-    for i in 0..n {
-        x[i] = x[i] * g;
+    for v in x.iter_mut() {
+        *v *= g;
     }
 }
 
@@ -29,11 +25,9 @@ pub fn scale(x: &mut [f32], g: f32)
 pub fn energy(x: &[f32], from: f32) -> f32
     ensures { result ≡ energy from x.now }
 {
-    let n = x.len();
     let mut s = from;
-    for i in 0..n {
-        let v = x[i];
-        s = s + v * v;
+    for v in x {
+        s += v * v;
     }
     s
 }

@@ -29,14 +29,14 @@ const E_MEANS: [f32; 25] = [
 pub fn band_edge(i: usize) -> usize
     ensures { result ≡ edge i }
 {
-    if i < 22 { EDGES[i] } else { LAST_EDGE }
+    EDGES.get(i).copied().unwrap_or(LAST_EDGE)
 }
 
 // The mean energy of band i; +0 past the last.
 pub fn mean_energy(i: usize) -> f32
     ensures { result ≡ mean i }
 {
-    if i < MAX_BANDS { E_MEANS[i] } else { 0.0 }
+    E_MEANS.get(i).copied().unwrap_or(0.0)
 }
 
 // The de-emphasis coefficients.

@@ -1,13 +1,8 @@
-use mathlib.Core.Path.{◌≡◌}
-use mathlib.Core.List.{map}
-use Prim.Native.Nat.{◌≤◌, ◌-◌}
-use lib.ListN.{length, take}
+-- The samples before the index are scaled.
+use Rattle.std.proofs.Common.{◌≡◌, map, take}
 use Rattle.loops.specs.Front.{front}
 use Rattle.buffers.specs.Buffers.{times}
 use Rattle.buffers.proofs.scale.Given as goal
 
-abbrev pub invariant-loop-i : goal.invariant-loop-i
-invariant-loop-i l = (l.i ≤ l.n) × (length l.x ≡ length l.initial.x) × (l.x ≡ front (map (times l.g) (take l.i l.initial.x)) l.initial.x l.i)
-
-abbrev pub decreases-loop-i : goal.decreases-loop-i
-decreases-loop-i l = l.n - l.i
+abbrev pub invariant-loop-v : goal.invariant-loop-v
+invariant-loop-v l = l.x ≡ front (map (times l.g) (take l.v-index l.initial.x)) l.initial.x l.v-index
