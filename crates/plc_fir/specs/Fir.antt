@@ -1,5 +1,5 @@
 -- celt_fir_inplace, by output
-use Rattle.std.specs.Prelude.{◌≡◌, refl, Bool, ◌&&◌, List, ◌++◌, ℕ, ◌+◌, ◌-◌, ◌≤◌, eqb, leb, length, get_or, take, drop, Float}
+use Rattle.std.specs.Prelude.{◌≡◌, refl, Bool, ◌&&◌, List, ◌++◌, ℕ, ◌≤◌, eqb, leb, length, get_or, take, drop, Float}
 use Rattle.std.proofs.Common.{arith, length-append, length-take, length-drop, drop_at, length-take-le}
 use Rattle.std.specs.Float.{nan, binary32}
 use Rattle.std.specs.Float.Ieee.{mul}

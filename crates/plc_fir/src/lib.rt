@@ -4,11 +4,12 @@
 
 ghost use Rattle.std.specs.Prelude.{◌≡◌, ◌+◌, ◌-◌, ◌≤◌, ◌<◌, length};
 ghost use Rattle.loops.specs.Front.{tab};
-ghost use Rattle.reply.specs.Reply.{reply, reply_if};
+ghost use Rattle.reply.specs.Reply.{replied, reply_if};
 ghost use Rattle.plc_fir.specs.Fir.{celt_fir, celt_fir_from, fir_takes};
 ghost use Rattle.plc_pad.specs.Pad.{Remembers, Holds, taps_row};
 
 use plc_pad::{NEWEST, ORDER};
+use reply::Refused;
 
 // The samples that are filtered at most.
 const LONGEST: usize = 1024;
@@ -19,8 +20,8 @@ fn padded(buf: &[f32], mem: &[f32]) -> [f32; 1048]
     ensures { Remembers result mem.now × Holds result buf.now (length buf.now) }
 {
     let mut pad = [0.0f32; ORDER + LONGEST];
-    plc_pad::remember(&mut pad, mem);
-    copying::copy(&mut pad[ORDER..], buf);
+    plc_pad::remember(&mut pad, mem).unwrap();
+    pad[ORDER..ORDER + buf.len()].copy_from_slice(buf);
     pad
 }
 
@@ -30,12 +31,9 @@ fn add_taps(out: &mut [f32], num: &[f32], pad: &[f32])
     ensures { out.new
         ≡ tab (taps_row num.now pad.now out.old (length num.now)) (length out.old) }
 {
-    let n = out.len();
-    let ord = num.len();
-    for j in 0..ord {
-        let c = num[j];
-        for i in 0..n {
-            out[i] = out[i] + c * pad[NEWEST + i - j];
+    for (j, c) in num.iter().enumerate() {
+        for (i, sum) in out.iter_mut().enumerate() {
+            *sum = *sum + *c * pad[NEWEST + i - j];
         }
     }
 }
@@ -52,32 +50,23 @@ fn filter_from(buf: &mut [f32], from: usize, num: &[f32], mem: &[f32])
 
 // Filters from place `from` on; what stands before it stays.
 // mem, the inputs before the start with the most recent first, is as long as num, 24 at most, and buf 1,024 at most; else refused, and buf stays.
-pub fn celt_fir_from(buf: &mut [f32], from: usize, num: &[f32], mem: &[f32]) -> bool
-    ensures { reply result buf.new
+pub fn celt_fir_from(buf: &mut [f32], from: usize, num: &[f32], mem: &[f32]) -> Result<(), Refused>
+    ensures { replied result buf.new
         ≡ reply_if (fir_takes (length num.now) (length mem.now) (length buf.old))
         (celt_fir_from from num.now mem.now buf.old) buf.old }
 {
-    let n = buf.len();
-    let ord = num.len();
-    if ord != mem.len() {
-        return false;
+    if num.len() != mem.len() || ORDER < num.len() || LONGEST < buf.len() {
+        return Err(Refused);
     }
-    if ORDER < ord {
-        return false;
+    if from < buf.len() {
+        filter_from(buf, from, num, mem);
     }
-    if LONGEST < n {
-        return false;
-    }
-    if n <= from {
-        return true;
-    }
-    filter_from(buf, from, num, mem);
-    true
+    Ok(())
 }
 
 // Filters all of buf, with the same refusals.
-pub fn celt_fir_inplace(buf: &mut [f32], num: &[f32], mem: &[f32]) -> bool
-    ensures { reply result buf.new
+pub fn celt_fir_inplace(buf: &mut [f32], num: &[f32], mem: &[f32]) -> Result<(), Refused>
+    ensures { replied result buf.new
         ≡ reply_if (fir_takes (length num.now) (length mem.now) (length buf.old))
         (celt_fir num.now mem.now buf.old) buf.old }
 {

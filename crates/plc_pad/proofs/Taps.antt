@@ -10,7 +10,7 @@ use lib.Seq.{get_or-set_same, get_or-set_other}
 use lib.Ieee.{Float, nan}
 use borrow.Author.Tests.{eqb-true, eqb-false, ltb-true, ltb-false, le-leb, lt-leb}
 use Rattle.loops.specs.Fold.{fold_to, fold-keeps}
-use Rattle.reply.specs.Reply.{reply, reply_if, reply-lent}
+use Rattle.reply.specs.Reply.{reply, reply_if, reply-lent, reply-taken}
 use Rattle.plc_pad.specs.Past.{past}
 use Rattle.plc_pad.specs.Pad.{Remembers, Holds, remembered_to, remembered, pad_takes}
 
@@ -53,7 +53,14 @@ module _ (pad mem : ℕ) where
   pub pad-takes : 24 ≤ pad → mem ≤ 24 → pad_takes pad mem ≡ true
   pad-takes h l = ap (λ z. z && leb mem 24) (le-leb 24 pad h) ∙ le-leb mem 24 l
 
--- what a call leaves of a new buffer of n remembers all of the memory
+-- a new buffer of n takes the memory
+pub remember-taken : {r : Bool} {y : List Float} (mem : List Float) (n : ℕ) (v : Float)
+    → reply r y ≡ reply_if (pad_takes (length (replicate n v)) (length mem)) (remembered mem (replicate n v)) (replicate n v) → 24 ≤ n → length mem ≤ 24 → r ≡ true
+remember-taken mem n v e h m =
+    let l : length (replicate n v) ≡ n = length-replicate n v in
+    reply-taken _ _ _ e ∙ pad-takes (length (replicate n v)) (length mem) (omega arith) m
+
+-- what a call leaves of it remembers all of the memory
 pub remembers_all : {r : Bool} {y : List Float} (mem : List Float) (n : ℕ) (v : Float)
     → reply r y ≡ reply_if (pad_takes (length (replicate n v)) (length mem)) (remembered mem (replicate n v)) (replicate n v) → 24 ≤ n → length mem ≤ 24 → Remembers y mem
 unfolding remembered
