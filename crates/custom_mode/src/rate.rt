@@ -3,6 +3,7 @@ ghost use Rattle.std.specs.Prelude.{◌≡◌};
 ghost use Rattle.custom_mode.specs.Rate.{resampling_factor};
 
 // The factor by which 48,000 Hz is divided; other rates have none.
+#[tactic(auto, unfolding(crate::specs::Rate::resampling_factor))]
 pub fn resampling_factor(rate: u32) -> Option<usize>
     ensures { result ≡ resampling_factor rate }
 {

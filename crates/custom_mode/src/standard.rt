@@ -16,11 +16,11 @@ pub const MAX_BANDS: usize = 25;
 // Where the last band ends.
 pub const LAST_EDGE: usize = 100;
 
-const EDGES: [usize; 22] = [
-    0, 1, 2, 3, 4, 5, 6, 7, 8, 10, 12, 14, 16, 20, 24, 28, 34, 40, 48, 60, 78, 100,
+const EDGES: [usize; BANDS + 1] = [
+    0, 1, 2, 3, 4, 5, 6, 7, 8, 10, 12, 14, 16, 20, 24, 28, 34, 40, 48, 60, 78, LAST_EDGE,
 ];
 
-const E_MEANS: [f32; 25] = [
+const E_MEANS: [f32; MAX_BANDS] = [
     6.4375, 6.25, 5.75, 5.3125, 5.0625, 4.8125, 4.5, 4.375, 4.875, 4.6875, 4.5625, 4.4375, 4.875,
     4.625, 4.3125, 4.5, 4.375, 4.625, 4.75, 4.4375, 3.75, 3.75, 3.75, 3.75, 3.75,
 ];
@@ -33,6 +33,7 @@ pub fn band_edge(i: usize) -> usize
 }
 
 // The mean energy of band i; +0 past the last.
+#[tactic(auto, unfolding(crate::specs::Mode::mean, crate::specs::Mode::means))]
 pub fn mean_energy(i: usize) -> f32
     ensures { result ≡ mean i }
 {
@@ -40,6 +41,7 @@ pub fn mean_energy(i: usize) -> f32
 }
 
 // The de-emphasis coefficients.
+#[tactic(auto, unfolding(crate::specs::Mode::preemph))]
 pub fn preemph() -> [f32; 4]
     ensures { result ≡ preemph }
 {
