@@ -5,14 +5,14 @@ use mathlib.Core.List.{List}
 use Prim.Native.Nat.{ℕ, zero, suc, ◌+◌, ◌-◌, ◌≤◌, ◌<◌}
 use native.Mathlib.Omega.{arith}
 use lib.Dec.{eqb, ltb, leb}
-use lib.ListN.{length, get_or, set, length-set, replicate, length-replicate}
-use lib.Seq.{get_or-set_same, get_or-set_other}
-use lib.Ieee.{Float, nan}
+use lib.ListN.{length, get_or, take, drop, set, length-set, replicate, length-replicate}
+use lib.Seq.{get_or-take, get_or-drop, get_or-set_same, get_or-set_other}
+use lib.Ieee.{Float, nan, binary32, sub, mul}
 use borrow.Author.Tests.{eqb-true, eqb-false, ltb-true, ltb-false, le-leb, lt-leb}
-use Rattle.loops.specs.Fold.{fold_to, fold-keeps}
+use Rattle.loops.specs.Fold.{fold_to, fold_same, fold-keeps}
 use Rattle.reply.specs.Reply.{reply, reply_if, reply-lent, reply-taken}
 use Rattle.plc_pad.specs.Past.{past}
-use Rattle.plc_pad.specs.Pad.{Remembers, Holds, remembered_to, remembered, pad_takes}
+use Rattle.plc_pad.specs.Pad.{Remembers, Holds, remembered_to, remembered, pad_takes, tap, taps_taken}
 
 -- the memory's place k written
 remember_more : (mem pad : List Float) (k : ℕ) → ((i : ℕ) → i < k → get_or pad (23 - i) nan ≡ get_or mem i nan) → k < 24 → 24 ≤ length pad
@@ -85,3 +85,13 @@ reads-past xs mem pad n i j r w h l m = go (ltb j i) refl
         let f : i ≤ j = ltb-false j i e in
         let p : 23 + i - j ≡ 23 - (j - i) = omega arith in
         ap (λ z. get_or pad z nan) p ∙ r (j - i) (omega arith)
+
+-- taps on the 24 values before place i of a longer buffer
+pub taps-part : (den pad part : List Float) (i n : ℕ) (x : Float) → n ≡ 24 → part ≡ take n (drop i pad) → taps_taken den part 0 x 24 ≡ taps_taken den pad i x 24
+taps-part den pad part i n x l e =
+    fold_same (λ (s : Float) (j : ℕ). sub binary32 s (tap den part 0 j)) (λ (s : Float) (j : ℕ). sub binary32 s (tap den pad i j)) x 24
+    (λ s j h.
+    let p : i + (23 + 0 - j) ≡ 23 + i - j = omega arith in
+    ap (λ z. sub binary32 s (mul binary32 (get_or den j nan) z))
+    (ap (λ z. get_or z (23 + 0 - j) nan) e ∙ get_or-take n (drop i pad) (23 + 0 - j) nan (omega arith)
+    ∙ get_or-drop i pad (23 + 0 - j) nan ∙ ap (λ z. get_or pad z nan) p))

@@ -4,7 +4,7 @@
 
 ghost use Rattle.std.specs.Prelude.{◌≡◌, ◌-◌, ◌<◌, length};
 ghost use Rattle.reply.specs.Reply.{replied, reply_if};
-ghost use Rattle.plc_pad.specs.Pad.{remembered, pad_takes};
+ghost use Rattle.plc_pad.specs.Pad.{order, remembered, pad_takes, taps_taken};
 
 use reply::Refused;
 
@@ -25,4 +25,16 @@ pub fn remember(pad: &mut [f32], mem: &[f32]) -> Result<(), Refused>
         pad[NEWEST - k] = *value;
     }
     Ok(())
+}
+
+// x less the taps on the 24 values before its place, the last of which is the most recent, in order.
+#[inline(always)]
+pub fn less_taps(den: &[f32; 24], past: &[f32; 24], x: f32) -> f32
+    ensures { result ≡ taps_taken den.now past.now 0 x order }
+{
+    let mut y = x;
+    for (j, d) in den.iter().enumerate() {
+        y = y - *d * past[NEWEST - j];
+    }
+    y
 }
