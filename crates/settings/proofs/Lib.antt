@@ -1,2 +1,2 @@
 pub mod Passed
-mod Table
+pub mod Table

@@ -1,22 +1,11 @@
 -- The code's way to each number of the table.
-use mathlib.Core.Path.{◌≡◌, refl, ap, sym, ◌∙◌}
-use mathlib.Core.Bool.{Bool, cond, ◌||◌}
-use Prim.Native.Nat.{ℕ, zero, suc}
-use native.Mathlib.Omega.{arith}
-use borrow.Author.Tests.{ne_eqb}
-use Rattle.settings.specs.Number.{or_else, within}
-use Rattle.settings.specs.Settings.{check_downsample}
+use Rattle.std.proofs.Common.{◌≡◌, ap, ◌∙◌}
+use Rattle.std.specs.Prelude.{Result}
+use Rattle.std.specs.Result.{IsErrAnd}
+use Rattle.std.proofs.lemmas.Result.{err_from_is_err_and}
+use Rattle.settings.specs.Number.{number_of, number_in}
+use Rattle.settings.specs.declared.Refusal.{Refusal}
 
-pub or-first : (a b : ℕ) → (a ≡ 0 → ⊥) → a ≡ or_else a b
-unfolding or_else
-or-first zero b n = absurd (n refl)
-or-first (suc a) b n = refl
-
-pub or-second : (a b : ℕ) → a ≡ 0 → b ≡ or_else a b
-unfolding or_else
-or-second zero b e = refl
-or-second (suc a) b e = let z : ⊥ = omega arith in absurd z
-
--- a factor other than 6
-pub other-factor : (d : ℕ) (p : Bool) (r : ℕ) → (d ≡ 6 → ⊥) → p ≡ within 1 4 d → r ≡ cond p 0 5 → r ≡ check_downsample d
-other-factor d p r n w e = e ∙ ap (λ b. cond b 0 5) (w ∙ sym (ap (λ a. a || within 1 4 d) (ne_eqb d 6 n)))
+-- the exit of a `?` answers what its check refused with
+pub exit_number : {A : Type 0} (r : Result A Refusal) (e : Refusal) → IsErrAnd r (λ y. y ≡ e) → number_in r ≡ number_of e
+exit_number r e q = let p = err_from_is_err_and r q in ap number_in p.1 ∙ ap number_of p.2

@@ -1,14 +1,17 @@
-// The settings of a stream: which are refused, and what follows from them; the numbers that a call answers with.
+// The settings of a stream: which are refused, and what follows from them; the numbers that a call is refused with.
 
 #![tactic(auto)]
 
 ghost use Rattle.std.specs.Prelude.{◌≡◌};
 ghost use Rattle.settings.specs.Number.{number_of};
 
+use std::error::Error;
+use std::fmt;
+
 pub mod checks;
 
 // The settings of a stream; the frame is 120 * 2 ^ lm samples long.
-#[derive(Clone, Copy)]
+#[derive(Clone, Copy, Debug, PartialEq, Eq)]
 pub struct Settings {
     pub lm: u32,
     pub channels: u32,
@@ -17,10 +20,9 @@ pub struct Settings {
     pub downsample: u32,
 }
 
-// Acceptance, or why a call was refused.
-#[derive(Clone, Copy)]
-pub enum Number {
-    Accepted,
+// Why a call is refused.
+#[derive(Clone, Copy, Debug, PartialEq, Eq)]
+pub enum Refusal {
     BadLm,
     BadChannels,
     BadStart,
@@ -33,23 +35,41 @@ pub enum Number {
     ShortPcm,
 }
 
-impl Number {
-    // Document 01's number.
-    pub fn value(self) -> u32
-        ensures { result ≡ number_of self }
-    {
-        match self {
-            Number::Accepted => 0,
-            Number::BadLm => 1,
-            Number::BadChannels => 2,
-            Number::BadStart => 3,
-            Number::BadEnd => 4,
-            Number::BadDownsample => 5,
-            Number::CountFull => 6,
-            Number::BadLag => 7,
-            Number::BadFilter => 8,
-            Number::BadHistory => 9,
-            Number::ShortPcm => 10,
+impl fmt::Display for Refusal {
+    fn fmt<W: fmt::Write>(&self, f: &mut fmt::Formatter<W>) -> fmt::Result {
+        f.write_str(match self {
+            Refusal::BadLm => "lm above 3",
+            Refusal::BadChannels => "channels not 1 or 2",
+            Refusal::BadStart => "start above 20",
+            Refusal::BadEnd => "end not above start, or above 21",
+            Refusal::BadDownsample => "downsample not 1, 2, 3, 4 or 6",
+            Refusal::CountFull => "loss count 4,294,967,295",
+            Refusal::BadLag => "start 0, loss count 1 to 4, lag outside 102 to 720",
+            Refusal::BadFilter => "filter period outside 15 to 1,022, or tapset above 2",
+            Refusal::BadHistory => "history not 4,336 samples",
+            Refusal::ShortPcm => "PCM buffer shorter than needed",
+        })
+    }
+}
+
+impl Error for Refusal {}
+
+// Document 01's number.
+impl From<Refusal> for u32 {
+    ghost from_gives = { λ e n. n ≡ number_of e };
+
+    fn from(e: Refusal) -> u32 {
+        match e {
+            Refusal::BadLm => 1,
+            Refusal::BadChannels => 2,
+            Refusal::BadStart => 3,
+            Refusal::BadEnd => 4,
+            Refusal::BadDownsample => 5,
+            Refusal::CountFull => 6,
+            Refusal::BadLag => 7,
+            Refusal::BadFilter => 8,
+            Refusal::BadHistory => 9,
+            Refusal::ShortPcm => 10,
         }
     }
 }

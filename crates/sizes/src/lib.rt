@@ -13,10 +13,7 @@ use settings::checks::{LM_MOST, settings_pass};
 pub fn block_factor(lm: u32) -> usize
     ensures { result ≡ block_factor lm }
 {
-    if LM_MOST < lm {
-        return 1usize << LM_MOST;
-    }
-    1usize << lm
+    1usize << lm.min(LM_MOST)
 }
 
 // The frame N; an lm above 3 counts as 3.
@@ -31,10 +28,8 @@ pub fn needed_samples(k: Settings) -> usize
     ensures { result ≡ needed k }
 {
     if settings_pass(k) {
-        let n = frame_size(k.lm);
-        let d = k.downsample as usize;
-        let per_channel = n / d;
-        return (k.channels as usize) * per_channel;
+        k.channels as usize * (frame_size(k.lm) / k.downsample as usize)
+    } else {
+        0
     }
-    0
 }

@@ -5,10 +5,11 @@
 pub mod checks;
 
 ghost use Rattle.std.specs.Prelude.{◌≡◌};
+ghost use Rattle.state.specs.Answer.{kind_of};
 ghost use Rattle.state.specs.State.{core, noisy};
 
 use post_filter::Filter;
-use settings::{Number, Settings};
+use settings::Settings;
 
 // All that a decoder carries but for the history, which is lent beside it. Of each array channel 0's values come first.
 #[derive(Clone, Copy)]
@@ -24,11 +25,29 @@ pub struct State {
     pub predictor: [f32; 48],
 }
 
-// What a call did. The kind is 1 for the pitch path, 2 for the noise path and 0 for a refusal; `samples` is the PCM written.
+// The path of an accepted loss.
+#[derive(Clone, Copy, Debug, PartialEq, Eq)]
+pub enum Kind {
+    Pitch,
+    Noise,
+}
+
+// Document 01's number.
+impl From<Kind> for u32 {
+    ghost from_gives = { λ k n. n ≡ kind_of k };
+
+    fn from(k: Kind) -> u32 {
+        match k {
+            Kind::Pitch => 1,
+            Kind::Noise => 2,
+        }
+    }
+}
+
+// What an accepted call did: its path, the PCM samples written, and the state after it.
 #[derive(Clone, Copy)]
 pub struct Answer {
-    pub number: Number,
-    pub kind: u32,
+    pub kind: Kind,
     pub samples: usize,
     pub state: State,
 }
@@ -37,12 +56,9 @@ pub struct Answer {
 const FIRST_NOISE: u32 = 5;
 
 // Whether an accepted loss goes by noise.
+#[tactic(auto, unfolding(crate::specs::State::noisy))]
 pub fn by_noise(s: State) -> bool
     ensures { result ≡ noisy (core s) }
 {
-    let k = s.settings;
-    if FIRST_NOISE <= s.loss_count {
-        return true;
-    }
-    k.start != 0
+    FIRST_NOISE <= s.loss_count || s.settings.start != 0
 }
