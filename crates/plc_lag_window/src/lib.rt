@@ -3,8 +3,10 @@
 #![tactic(auto)]
 
 ghost use Rattle.std.specs.Prelude.{◌≡◌, ◌≤◌, leb, length};
-ghost use Rattle.reply.specs.Reply.{reply, reply_if};
+ghost use Rattle.reply.specs.Reply.{replied, reply_if};
 ghost use Rattle.plc_lag_window.specs.LagWindow.{lag_value, lag_window};
+
+use reply::Refused;
 
 // The lags that f32 counts exactly, with room to spare.
 const MOST_LAGS: usize = 65536;
@@ -14,6 +16,7 @@ const FLOOR_FACTOR: f32 = 1.0001;
 const LAG_STEP: f32 = 0.008;
 
 // The correlation a of lag i: raised by the noise floor at lag 0, else windowed.
+#[tactic(auto, unfolding(crate::specs::LagWindow::lag_value, crate::specs::LagWindow::lag_windowed, crate::specs::LagWindow::lag_factor))]
 fn lag_value(a: f32, i: usize) -> f32
     requires { i ≤ 65536 }
     ensures { result ≡ lag_value a i }
@@ -26,15 +29,14 @@ fn lag_value(a: f32, i: usize) -> f32
 }
 
 // Noise floor and lag windowing. Refused, with nothing changed, above 65,536 values.
-pub fn lag_window(ac: &mut [f32]) -> bool
-    ensures { reply result ac.new ≡ reply_if (leb (length ac.old) 65536) (lag_window ac.old) ac.old }
+pub fn lag_window(ac: &mut [f32]) -> Result<(), Refused>
+    ensures { replied result ac.new ≡ reply_if (leb (length ac.old) 65536) (lag_window ac.old) ac.old }
 {
-    let n = ac.len();
-    if MOST_LAGS < n {
-        return false;
+    if MOST_LAGS < ac.len() {
+        return Err(Refused);
     }
-    for i in 0..n {
-        ac[i] = lag_value(ac[i], i);
+    for (i, a) in ac.iter_mut().enumerate() {
+        *a = lag_value(*a, i);
     }
-    true
+    Ok(())
 }

@@ -3,28 +3,22 @@
 #![tactic(auto)]
 
 ghost use Rattle.std.specs.Prelude.{◌≡◌, ◌+◌, eqb, length};
-ghost use Rattle.reply.specs.Reply.{reply, reply_if};
+ghost use Rattle.reply.specs.Reply.{replied, reply_if};
 ghost use Rattle.plc_lpc.specs.Lpc.{celt_lpc};
+
+use reply::Refused;
 
 // The part of the first correlation below which the error stops the predictor.
 const SMALL: f32 = 0.001;
 
-// Whether a predictor was made.
-#[derive(Clone, Copy)]
-pub struct Solved {
-    pub taken: bool,
-}
-
-// Levinson-Durbin: leaves once the error is below 0.001 of the first correlation.
+// Levinson-Durbin: leaves once the error is below 0.001 of the first correlation. By place: the loops take two places at a time from either side.
 fn solve(lpc: &mut [f32], ac: &[f32])
     requires { length ac.now ≡ length lpc.old + 1 }
     ensures { lpc.new ≡ celt_lpc ac.now (length lpc.old) }
 {
     let p = lpc.len();
     let mut error = ac[0];
-    for k in 0..p {
-        lpc[k] = 0.0;
-    }
+    lpc.fill(0.0);
     if ac[0] == 0.0 {
         return;
     }
@@ -50,19 +44,14 @@ fn solve(lpc: &mut [f32], ac: &[f32])
 }
 
 // The predictor of order lpc.len() from one correlation more; any other number is refused, and lpc stays.
-pub fn celt_lpc(lpc: &mut [f32], ac: &[f32]) -> Solved
-    ensures { reply result.taken lpc.new
+pub fn celt_lpc(lpc: &mut [f32], ac: &[f32]) -> Result<(), Refused>
+    ensures { replied result lpc.new
         ≡ reply_if (eqb (length ac.now) (length lpc.old + 1))
         (celt_lpc ac.now (length lpc.old)) lpc.old }
 {
-    let m = ac.len();
-    let p = lpc.len();
-    if m == 0 {
-        return Solved { taken: false };
-    }
-    if m - 1 != p {
-        return Solved { taken: false };
+    if ac.len() != lpc.len() + 1 {
+        return Err(Refused);
     }
     solve(lpc, ac);
-    Solved { taken: true }
+    Ok(())
 }
