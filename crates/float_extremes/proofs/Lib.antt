@@ -1,2 +1,1 @@
-mod Extreme
 pub mod Zeros

@@ -1,4 +1,4 @@
-// Rust's `f32::min` and `f32::max`.
+// Rust's `f32::min` and `f32::max`, which leave open which of two zeros they answer: here it is the first.
 
 #![tactic(auto)]
 
@@ -10,16 +10,14 @@ ghost use Rattle.float_extremes.specs.Extremes.{min_of, max_of};
 fn number_of(x: f32, y: f32, second: bool) -> f32
     ensures { result ≡ cond (is_nan x) y (cond (is_nan y) x (cond second y x)) }
 {
-    if x != x {
+    if x.is_nan() {
         return y;
     }
-    if y != y {
-        return x;
-    }
-    if second { y } else { x }
+    if second && !y.is_nan() { y } else { x }
 }
 
 // The lesser of x and y; where one is NaN, the other.
+#[tactic(auto, unfolding(crate::specs::Extremes::min_of))]
 pub fn min_f32(x: f32, y: f32) -> f32
     ensures { result ≡ min_of x y }
 {
@@ -27,6 +25,7 @@ pub fn min_f32(x: f32, y: f32) -> f32
 }
 
 // The greater of x and y; where one is NaN, the other.
+#[tactic(auto, unfolding(crate::specs::Extremes::max_of))]
 pub fn max_f32(x: f32, y: f32) -> f32
     ensures { result ≡ max_of x y }
 {
