@@ -1,14 +1,13 @@
 -- The two-best tracker over a sweep of correlations, as `find_best_pitch` has it.
-use Rattle.std.specs.Prelude.{ℕ, ◌+◌, cond, ◌&&◌, List, leb, length, get_or, Float}
+use Rattle.std.specs.Prelude.{Bool, ℕ, ◌+◌, cond, ◌&&◌, List, leb, length, get_or, Option, Some, None, Float}
 use Rattle.std.specs.Float.{nan, binary32}
 use Rattle.std.specs.Float.Ieee.{add, sub, mul, lt, neg}
 use Rattle.loops.specs.Fold.{fold_to}
 use Rattle.loops.specs.Sum.{sum_to}
 use Rattle.buffers.specs.Buffers.{zero32, one32, square_at}
 use Rattle.float_extremes.specs.Extremes.{max_of}
+use Rattle.plc_best.specs.declared.Candidate.{Candidate}
 use Rattle.plc_best.specs.declared.Best.{Best}
-use Rattle.plc_best.specs.declared.Pitches.{Pitches}
-use Rattle.plc_best.specs.declared.Pitches.TheVariants.{Pair, Refused}
 
 -- -1.0
 abbrev pub minus_one : Float
@@ -23,18 +22,18 @@ unfoldable pub next_energy : List Float → ℕ → Float → ℕ → Float
 next_energy y len syy i =
     max_of (add binary32 syy (sub binary32 (square_at y (i + len)) (square_at y i))) one32
 
+-- its squared correlation is the greater part of its energy
+unfoldable pub beats : Candidate → Candidate → Bool
+beats c b = lt (mul binary32 b.num c.den) (mul binary32 c.num b.den)
+
 -- a candidate becomes the best, the second best, or neither
-unfoldable pub ranked : Best → Float → Float → ℕ → Best
-ranked b num syy i =
-    cond (lt (mul binary32 b.num1 syy) (mul binary32 num b.den1))
-    (cond (lt (mul binary32 b.num0 syy) (mul binary32 num b.den0))
-    (record { num0 = num; den0 = syy; at0 = i; num1 = b.num0; den1 = b.den0; at1 = b.at0 })
-    (record { num0 = b.num0; den0 = b.den0; at0 = b.at0; num1 = num; den1 = syy; at1 = i }))
-    b
+unfoldable pub ranked : Best → Candidate → Best
+ranked b c =
+    cond (beats c b.second) (cond (beats c b.first) (record { first = c; second = b.first }) (record { first = b.first; second = c })) b
 
 -- a place is a candidate where its correlation is above 0
 unfoldable pub considered : Best → Float → Float → ℕ → Best
-considered b x syy i = cond (lt zero32 x) (ranked b (mul binary32 x x) syy i) b
+considered b x syy i = cond (lt zero32 x) (ranked b (record { num = mul binary32 x x; den = syy; at = i })) b
 
 pub record Sweep : Type 0 where
   pub best : Best
@@ -45,7 +44,7 @@ sweep_turn xcorr y len s i = record { best = considered s.best (get_or xcorr i n
 
 -- none found yet: the pair is 0 and 1
 abbrev pub best_start : Best
-best_start = record { num0 = minus_one; den0 = zero32; at0 = 0; num1 = minus_one; den1 = zero32; at1 = 1 }
+best_start = record { first = record { num = minus_one; den = zero32; at = 0 }; second = record { num = minus_one; den = zero32; at = 1 } }
 
 unfoldable pub sweep_to : List Float → List Float → ℕ → ℕ → Sweep
 sweep_to xcorr y len n = fold_to (sweep_turn xcorr y len) (record { best = best_start; syy = first_energy y len }) n
@@ -55,8 +54,8 @@ unfoldable pub find_best_pitch : List Float → List Float → ℕ → ℕ → B
 find_best_pitch xcorr y len n = (sweep_to xcorr y len n).best
 
 -- the pair, where xcorr has n values and y the samples that they are measured by
-unfoldable pub best_pitches : List Float → List Float → ℕ → ℕ → Pitches
+unfoldable pub best_pitches : List Float → List Float → ℕ → ℕ → Option (ℕ × ℕ)
 best_pitches xcorr y len n =
     cond (leb n (length xcorr) && leb (len + n) (length y))
-    (Pair (find_best_pitch xcorr y len n).at0 (find_best_pitch xcorr y len n).at1)
-    Refused
+    (Some ((find_best_pitch xcorr y len n).first.at, (find_best_pitch xcorr y len n).second.at))
+    None

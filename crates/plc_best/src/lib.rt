@@ -3,82 +3,86 @@
 #![tactic(auto)]
 
 ghost use Rattle.std.specs.Prelude.{◌≡◌, ◌+◌, ◌≤◌, length};
-ghost use Rattle.plc_best.specs.Best.{ranked, considered, find_best_pitch, best_pitches};
+ghost use Rattle.plc_best.specs.Best.{beats, ranked, considered, find_best_pitch, best_pitches};
 
-// The two best places so far, with the squared correlation and the energy of each.
+// A place, with its squared correlation and the energy of the samples there.
 #[derive(Clone, Copy)]
-pub struct Best {
-    pub num0: f32,
-    pub den0: f32,
-    pub at0: usize,
-    pub num1: f32,
-    pub den1: f32,
-    pub at1: usize,
+pub struct Candidate {
+    pub num: f32,
+    pub den: f32,
+    pub at: usize,
 }
 
-// The two best places, or none where a slice is too short for the counts.
-#[derive(Clone, Copy)]
-pub enum Pitches {
-    Pair(usize, usize),
-    Refused,
-}
-
-// A candidate becomes the best, the second best, or neither.
-fn candidate(b: Best, num: f32, syy: f32, i: usize) -> Best
-    ensures { result ≡ ranked b num syy i }
-{
-    if num * b.den1 > b.num1 * syy {
-        if num * b.den0 > b.num0 * syy {
-            Best {
-                num0: num,
-                den0: syy,
-                at0: i,
-                num1: b.num0,
-                den1: b.den0,
-                at1: b.at0,
-            }
-        } else {
-            Best {
-                num0: b.num0,
-                den0: b.den0,
-                at0: b.at0,
-                num1: num,
-                den1: syy,
-                at1: i,
-            }
-        }
-    } else {
-        b
+impl Candidate {
+    // Whether its correlation is the greater part of its energy.
+    #[tactic(auto, unfolding(crate::specs::Best::beats))]
+    fn beats(self, other: Candidate) -> bool
+        ensures { result ≡ beats self other }
+    {
+        self.num * other.den > other.num * self.den
     }
 }
 
-// A place is a candidate where its correlation is above 0.
-fn consider(b: Best, x: f32, syy: f32, i: usize) -> Best
-    ensures { result ≡ considered b x syy i }
-{
-    if x > 0.0 {
-        candidate(b, x * x, syy, i)
-    } else {
-        b
+// The two best places so far.
+#[derive(Clone, Copy)]
+pub struct Best {
+    pub first: Candidate,
+    pub second: Candidate,
+}
+
+impl Best {
+    // A candidate becomes the best, the second best, or neither.
+    #[tactic(auto, unfolding(crate::specs::Best::ranked))]
+    fn ranked(self, c: Candidate) -> Best
+        ensures { result ≡ ranked self c }
+    {
+        if !c.beats(self.second) {
+            return self;
+        }
+        if c.beats(self.first) {
+            Best {
+                first: c,
+                second: self.first,
+            }
+        } else {
+            Best { second: c, ..self }
+        }
+    }
+
+    // A place is a candidate where its correlation is above 0.
+    #[tactic(auto, unfolding(crate::specs::Best::considered))]
+    fn considered(self, x: f32, syy: f32, at: usize) -> Best
+        ensures { result ≡ considered self x syy at }
+    {
+        if x > 0.0 {
+            self.ranked(Candidate {
+                num: x * x,
+                den: syy,
+                at,
+            })
+        } else {
+            self
+        }
     }
 }
 
 // The two best places; the energy of len samples runs along.
-fn two_best(xcorr: &[f32], y: &[f32], len: usize, max_pitch: usize) -> Best
-    requires { (max_pitch ≤ length xcorr.now) × (len + max_pitch ≤ length y.now) }
-    ensures { result ≡ find_best_pitch xcorr.now y.now len max_pitch }
+fn two_best(xcorr: &[f32], y: &[f32], len: usize) -> Best
+    requires { len + length xcorr.now ≤ length y.now }
+    ensures { result ≡ find_best_pitch xcorr.now y.now len (length xcorr.now) }
 {
+    let none = Candidate {
+        num: -1.0,
+        den: 0.0,
+        at: 0,
+    };
     let mut best = Best {
-        num0: -1.0,
-        den0: 0.0,
-        at0: 0,
-        num1: -1.0,
-        den1: 0.0,
-        at1: 1,
+        first: none,
+        second: Candidate { at: 1, ..none },
     };
     let mut syy = buffers::energy(&y[..len], 1.0);
-    for i in 0..max_pitch {
-        best = consider(best, xcorr[i], syy, i);
+    for (i, x) in xcorr.iter().enumerate() {
+        best = best.considered(*x, syy, i);
         let newest = y[i + len];
         let oldest = y[i];
         syy = float_extremes::max_f32(syy + (newest * newest - oldest * oldest), 1.0);
@@ -86,19 +90,14 @@ fn two_best(xcorr: &[f32], y: &[f32], len: usize, max_pitch: usize) -> Best
     best
 }
 
-// The two best of the first max_pitch places of xcorr; y is needed len samples further.
-pub fn find_best_pitch(xcorr: &[f32], y: &[f32], len: usize, max_pitch: usize) -> Pitches
-    ensures { result ≡ best_pitches xcorr.now y.now len max_pitch }
+// The two best of the places of xcorr, or none where y does not reach len samples further.
+#[tactic(auto, unfolding(crate::specs::Best::best_pitches))]
+pub fn find_best_pitch(xcorr: &[f32], y: &[f32], len: usize) -> Option<(usize, usize)>
+    ensures { result ≡ best_pitches xcorr.now y.now len (length xcorr.now) }
 {
-    if xcorr.len() < max_pitch {
-        return Pitches::Refused;
+    if y.len() < xcorr.len() || y.len() - xcorr.len() < len {
+        return None;
     }
-    if y.len() < max_pitch {
-        return Pitches::Refused;
-    }
-    if y.len() - max_pitch < len {
-        return Pitches::Refused;
-    }
-    let b = two_best(xcorr, y, len, max_pitch);
-    Pitches::Pair(b.at0, b.at1)
+    let best = two_best(xcorr, y, len);
+    Some((best.first.at, best.second.at))
 }

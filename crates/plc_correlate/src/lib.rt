@@ -6,8 +6,10 @@ ghost use Rattle.std.specs.Prelude.{◌≡◌, ℕ, ◌+◌, ◌*◌, ◌-◌, �
 ghost use Rattle.std.specs.Float.{nan, binary32};
 ghost use Rattle.std.specs.Float.Ieee.{add, mul};
 ghost use Rattle.loops.specs.Front.{tab};
-ghost use Rattle.reply.specs.Reply.{reply, reply_if};
+ghost use Rattle.reply.specs.Reply.{replied, reply_if};
 ghost use Rattle.plc_correlate.specs.Correlation.{cross_sum, correlation, correlate_takes};
+
+use reply::Refused;
 
 // One term more in each of the sums.
 fn add_products(v: f32, y: &[f32], sums: &mut [f32])
@@ -15,9 +17,8 @@ fn add_products(v: f32, y: &[f32], sums: &mut [f32])
     ensures { sums.new
         ≡ tab (λ (i : ℕ). add binary32 (get_or sums.old i nan) (mul binary32 v (get_or y.now i nan))) (length sums.old) }
 {
-    let n = sums.len();
-    for i in 0..n {
-        sums[i] = sums[i] + v * y[i];
+    for (i, s) in sums.iter_mut().enumerate() {
+        *s += v * y[i];
     }
 }
 
@@ -26,26 +27,24 @@ fn cross_sums(x: &[f32], y: &[f32], sums: &mut [f32])
     requires { length x.now + length sums.old ≤ length y.now + 1 }
     ensures { sums.new ≡ tab (λ (i : ℕ). cross_sum x.now y.now i (length x.now)) (length sums.old) }
 {
-    buffers::fill(sums, 0.0);
-    let n = x.len();
-    for j in 0..n {
-        add_products(x[j], &y[j..], sums);
+    sums.fill(0.0);
+    for (j, v) in x.iter().enumerate() {
+        add_products(*v, &y[j..], sums);
     }
 }
 
 // The correlations of x with y from each of the first places on. A y too short for the last of them is refused, and xcorr stays.
-pub fn correlate(x: &[f32], y: &[f32], xcorr: &mut [f32]) -> bool
-    ensures { reply result xcorr.new
+pub fn correlate(x: &[f32], y: &[f32], xcorr: &mut [f32]) -> Result<(), Refused>
+    ensures { replied result xcorr.new
         ≡ reply_if (correlate_takes (length x.now) (length y.now) (length xcorr.old))
         (tab (correlation x.now y.now (length x.now)) (length xcorr.old)) xcorr.old }
 {
     if y.len() + 1 < x.len() + xcorr.len() {
-        return false;
+        return Err(Refused);
     }
     cross_sums(x, y, xcorr);
-    let m = xcorr.len();
-    for i in 0..m {
-        xcorr[i] = float_extremes::max_f32(xcorr[i], -1.0);
+    for c in xcorr.iter_mut() {
+        *c = float_extremes::max_f32(*c, -1.0);
     }
-    true
+    Ok(())
 }
