@@ -51,11 +51,11 @@ module _ (y : List Float) (c : (i : ℕ) → i < 155 → NotPositive (correlatio
   unfolding fine_best fine
   fine-best_start =
       none-positive (fine y (coarse_best y)) y 664 310
-      (λ i h. ap (lt zero32) (get_or-tab (fine_at y (coarse_best y).at0 (coarse_best y).at1) 310 i nan h) ∙ fine-not (coarse_best y).at0 (coarse_best y).at1 i h)
+      (λ i h. ap (lt zero32) (get_or-tab (fine_at y (coarse_best y).first.at (coarse_best y).second.at) 310 i nan h) ∙ fine-not (coarse_best y).first.at (coarse_best y).second.at i h)
 
   pub none_found : pitch_search y ≡ 0
   unfolding pitch_search refined
-  none_found = ap (λ z. refined (fine y (coarse_best y)) z.at0) fine-best_start
+  none_found = ap (λ z. refined (fine y (coarse_best y)) z.first.at) fine-best_start
 
 -- ---- what samples a correlation reads
 module _ (P : Float → Type 0) (y : List Float) (a : (i : ℕ) → i < 1024 → P (get_or y i nan)) where

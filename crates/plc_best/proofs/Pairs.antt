@@ -1,15 +1,17 @@
 -- What `find_best_pitch` answers.
-use mathlib.Core.Path.{◌≡◌, ap, ◌∙◌, sym}
+use mathlib.Core.Path.{◌≡◌, ap, ◌∙◌}
 use mathlib.Core.List.{List}
 use Prim.Native.Nat.{ℕ, ◌+◌, ◌≤◌}
+use native.Mathlib.Omega.{arith}
 use lib.Ieee.{Float}
 use lib.ListN.{length}
 use borrow.Author.Tests.{le-leb}
-use Rattle.std.specs.Prelude.{Some}
-use Rattle.plc_best.specs.declared.Best.{Best}
+use Rattle.std.specs.Prelude.{Option, Some}
 use Rattle.plc_best.specs.Best.{find_best_pitch, best_pitches}
 
-module _ (xcorr y : List Float) (len n : ℕ) where
-  pub pair : (b : Best) → b ≡ find_best_pitch xcorr y len n → n ≤ length xcorr → len + n ≤ length y → Some (b.first.at, b.second.at) ≡ best_pitches xcorr y len n
-  unfolding best_pitches
-  pair b e h k = ap (λ z. Some (z.first.at, z.second.at)) e ∙ sym (simp (le-leb n (length xcorr) h, le-leb (len + n) (length y) k))
+-- a pair, where y reaches far enough
+pub found : {r : Option (ℕ × ℕ)} (xcorr y : List Float) (len n : ℕ) → length xcorr ≡ n → len + n ≤ length y → r ≡ best_pitches xcorr y len (length xcorr)
+    → r ≡ Some ((find_best_pitch xcorr y len n).first.at, (find_best_pitch xcorr y len n).second.at)
+unfolding best_pitches
+found xcorr y len n l h e =
+    e ∙ ap (best_pitches xcorr y len) l ∙ simp (le-leb n (length xcorr) (omega arith), le-leb (len + n) (length y) h)

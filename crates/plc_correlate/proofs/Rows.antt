@@ -1,6 +1,6 @@
 -- Rows of sums that grow side by side.
 use mathlib.Core.Path.{◌≡◌, refl, ap, ◌∙◌, sym}
-use mathlib.Core.Bool.{Bool}
+use mathlib.Core.Bool.{Bool, true}
 use mathlib.Core.List.{List}
 use Prim.Native.Nat.{ℕ, ◌+◌, ◌-◌, ◌≤◌, ◌<◌}
 use native.Mathlib.Nat.{add_assoc, add_comm}
@@ -10,7 +10,7 @@ use lib.ListN.{length, get_or, take, drop, length-drop, replicate, length-replic
 use lib.Seq.{get_or-drop, take_all}
 use borrow.Author.Tests.{le-leb}
 use Rattle.loops.specs.Front.{front, tab, tab-same, tab-list, tab-read, get_or-tab, length-tab}
-use Rattle.reply.specs.Reply.{reply, reply_if, reply-lent}
+use Rattle.reply.specs.Reply.{reply, reply_if, reply-lent, reply-taken}
 use Rattle.loops.specs.Sum.{sum-none, sum_more, sum_same}
 use Rattle.buffers.specs.Buffers.{zero32}
 use Rattle.float_extremes.specs.Extremes.{max_of}
@@ -65,6 +65,12 @@ pub correlated : {t : Bool} {r : List Float} (x y w : List Float)
     → reply t r ≡ reply_if (correlate_takes (length x) (length y) (length w)) (tab (correlation x y (length x)) (length w)) w → length x + length w ≤ length y + 1
     → r ≡ tab (correlation x y (length x)) (length w)
 correlated x y w e h = reply-lent (correlate_takes (length x) (length y) (length w)) (tab (correlation x y (length x)) (length w)) w e (le-leb (length x + length w) (length y + 1) h)
+
+-- it takes them
+pub taken : {t : Bool} {r : List Float} (x y w : List Float)
+    → reply t r ≡ reply_if (correlate_takes (length x) (length y) (length w)) (tab (correlation x y (length x)) (length w)) w → length x + length w ≤ length y + 1
+    → t ≡ true
+taken x y w e h = reply-taken (correlate_takes (length x) (length y) (length w)) (tab (correlation x y (length x)) (length w)) w e ∙ le-leb (length x + length w) (length y + 1) h
 
 -- samples from `lo` on, counted from there
 pub from : (x y : List Float) (lo k n : ℕ) → correlation x (drop lo y) n k ≡ correlation x y n (lo + k)

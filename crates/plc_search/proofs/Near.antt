@@ -1,37 +1,24 @@
 -- The finer search: places near twice the coarse best, and the row of correlations around them.
-use mathlib.Core.Path.{◌≡◌, refl, ap, ◌∙◌, sym}
+use mathlib.Core.Path.{◌≡◌, refl, ap, ◌∙◌}
 use mathlib.Core.Bool.{Bool, true, false, cond, ◌||◌}
 use mathlib.Core.List.{List}
-use Prim.Native.Nat.{ℕ, ◌+◌, ◌*◌, ◌-◌, ◌≤◌, ◌<◌}
+use Prim.Native.Nat.{ℕ, ◌+◌, ◌*◌, ◌-◌, ◌≤◌}
 use native.Mathlib.Omega.{arith}
 use lib.Dec.{leb}
 use lib.Ieee.{Float, nan}
 use lib.ListN.{length, get_or, take, drop, length-drop}
-use borrow.Author.Tests.{le-leb, lt-leb, leb-true, lt-ltb}
+use borrow.Author.Tests.{leb-true}
 use Rattle.loops.specs.Front.{tab, tab-same, get_or-tab}
-use Rattle.loops.specs.Logic.{and-true, and_second}
-use Rattle.loops.specs.Pick.{pick_true, pick-false}
+use Rattle.loops.specs.Logic.{and-true}
 use Rattle.reply.specs.Reply.{reply, reply_if}
 use Rattle.buffers.specs.Buffers.{zero32}
-use Rattle.plc_search.specs.Search.{near, fine_at, interpolated, refined}
+use Rattle.plc_search.specs.Search.{near, fine_at}
 use Rattle.plc_correlate.specs.Correlation.{correlation, correlate_takes}
 use Rattle.plc_search.specs.Rows.{near_row, near_or}
-use Rattle.plc_correlate.proofs.Rows.{to_end, correlated, from}
+use Rattle.plc_correlate.proofs.Rows.{to_end, correlated, taken, from}
 
 -- ---- which places are near
 module _ (b i : ℕ) where
-  below : i + 2 < 2 * b → near b i ≡ false
-  unfolding near
-  below h = simp (lt-leb (2 * b) (i + 2) h)
-
-  above : 2 * b + 2 < i → near b i ≡ false
-  unfolding near
-  above h = and_second (leb (2 * b) (i + 2)) _ (lt-leb i (2 * b + 2) h)
-
-  between : 2 * b ≤ i + 2 → i ≤ 2 * b + 2 → near b i ≡ true
-  unfolding near
-  between h k = simp (le-leb (2 * b) (i + 2) h, le-leb i (2 * b + 2) k)
-
   low_end : near b i ≡ true → 2 * b ≤ i + 2
   unfolding near
   low_end e = leb-true (2 * b) (i + 2) (and-true _ _ e).0
@@ -40,21 +27,19 @@ module _ (b i : ℕ) where
   unfolding near
   high_end e = leb-true i (2 * b + 2) (and-true (leb (2 * b) (i + 2)) _ e).1
 
--- ---- what `near_or` returns
-module _ (row : List Float) (b i : ℕ) (v : Float) where
-  pub or-below : i + 2 < 2 * b → v ≡ near_or row b i v
-  unfolding near_or
-  or-below h = sym (pick-false _ _ _ (below b i h))
-
-  pub or_above : 2 * b + 2 < i → v ≡ near_or row b i v
-  unfolding near_or
-  or_above h = sym (pick-false _ _ _ (above b i h))
-
-  pub or-near : (k : ℕ) → k ≡ 2 * b - 2 → 2 * b ≤ i + 2 → i ≤ 2 * b + 2 → get_or row (i - k) nan ≡ near_or row b i v
-  unfolding near_or
-  or-near k e h l = ap (λ z. get_or row (i - z) nan) e ∙ sym (pick_true _ _ _ (between b i h l))
-
 -- ---- the row around twice b
+-- a part of y, and how long it is
+part : (y : List Float) (k : ℕ) → length y ≡ 1024 → length (take (length y - k) (drop k y)) ≡ 1024 - k
+part y k h = ap length (to_end k y) ∙ omega (arith, length-drop k y)
+
+pub near-taken : {t : Bool} {r : List Float} (y w : List Float) (b lo : ℕ) → lo ≡ 2 * b - 2 → length y ≡ 1024 → b ≤ 154 → length w ≡ 5
+    → reply t r
+    ≡ reply_if (correlate_takes (length (take (length y - 360) (drop 360 y))) (length (take (length y - lo) (drop lo y))) (length w))
+    (tab (correlation (take (length y - 360) (drop 360 y)) (take (length y - lo) (drop lo y)) (length (take (length y - 360) (drop 360 y)))) (length w)) w
+    → t ≡ true
+near-taken y w b lo e h k q v =
+    taken (take (length y - 360) (drop 360 y)) (take (length y - lo) (drop lo y)) w v (omega (arith, part y 360 h, part y lo h))
+
 pub near-row : {t : Bool} {r : List Float} (y w : List Float) (b lo : ℕ) → lo ≡ 2 * b - 2 → length y ≡ 1024 → b ≤ 154 → length w ≡ 5
     → reply t r
     ≡ reply_if (correlate_takes (length (take (length y - 360) (drop 360 y))) (length (take (length y - lo) (drop lo y))) (length w))
@@ -62,10 +47,8 @@ pub near-row : {t : Bool} {r : List Float} (y w : List Float) (b lo : ℕ) → l
     → r ≡ near_row y b
 unfolding near_row
 near-row y w b lo e h k q v =
-    let l : length (take (length y - 360) (drop 360 y)) ≡ 664 = ap length (to_end 360 y) ∙ omega (arith, length-drop 360 y) in
-    let m : length (take (length y - lo) (drop lo y)) ≡ 1024 - lo = ap length (to_end lo y) ∙ omega (arith, length-drop lo y) in
-    correlated (take (length y - 360) (drop 360 y)) (take (length y - lo) (drop lo y)) w v (omega arith)
-    ∙ ap (λ z. tab (correlation (take (length y - 360) (drop 360 y)) (take (length y - lo) (drop lo y)) z) (length w)) l
+    correlated (take (length y - 360) (drop 360 y)) (take (length y - lo) (drop lo y)) w v (omega (arith, part y 360 h, part y lo h))
+    ∙ ap (λ z. tab (correlation (take (length y - 360) (drop 360 y)) (take (length y - lo) (drop lo y)) z) (length w)) (part y 360 h)
     ∙ ap (λ z. tab (correlation z (take (length y - lo) (drop lo y)) 664) (length w)) (to_end 360 y)
     ∙ ap (λ z. tab (correlation (drop 360 y) z 664) (length w)) (to_end lo y)
     ∙ ap (tab (correlation (drop 360 y) (drop lo y) 664)) q
@@ -98,17 +81,3 @@ fine-at y r0 r1 b0 b1 i v w e0 e1 ew ev =
     ∙ ap (λ z. near_or z b0 i w) e0
     ∙ ap (near_or (near_row y b0) b0 i) (ew ∙ ap (λ z. near_or z b1 i zero32) e1)
     ∙ both-rows y b0 b1 i
-
--- ---- the last step
-pub at-start : (xcorr : List Float) (p : ℕ) → p ≡ 0 → 0 ≡ refined xcorr p
-unfolding refined
-at-start xcorr p e = sym (ap (refined xcorr) e)
-
-pub at-end : (xcorr : List Float) (p : ℕ) → p ≡ 309 → 618 ≡ refined xcorr p
-unfolding refined
-at-end xcorr p e = sym (ap (refined xcorr) e)
-
-pub inside : (xcorr : List Float) (p r : ℕ) → 0 < p → p < 309 → r ≡ interpolated p (get_or xcorr (p - 1) nan) (get_or xcorr p nan) (get_or xcorr (p + 1) nan)
-    → r ≡ refined xcorr p
-unfolding refined
-inside xcorr p r h k e = e ∙ sym (simp (lt-ltb 0 p h, lt-ltb p 309 k))

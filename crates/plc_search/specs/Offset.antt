@@ -6,32 +6,30 @@ use Rattle.std.specs.Float.Ieee.{sub, mul, lt}
 use Rattle.loops.specs.Fold.{fold-holds}
 use Rattle.loops.specs.Logic.{cond_either}
 use Rattle.buffers.specs.Buffers.{zero32}
+use Rattle.plc_best.specs.declared.Candidate.{Candidate}
 use Rattle.plc_best.specs.declared.Best.{Best}
-use Rattle.plc_best.specs.Best.{ranked, considered, sweep_turn, sweep_to, find_best_pitch}
+use Rattle.plc_best.specs.Best.{beats, ranked, considered, sweep_turn, sweep_to, find_best_pitch}
 use Rattle.plc_search.specs.Search.{fine, coarse_best, fine_best, seven_tenths, interpolated, refined, pitch_search}
 
 -- both places are among the first n
 pub record Within (n : ℕ) (b : Best) : Type 0 where
-  pub first : b.at0 < n
-  pub second : b.at1 < n
+  pub first : b.first.at < n
+  pub second : b.second.at < n
 
-ranked-within : (n : ℕ) (b : Best) (num syy : Float) (i : ℕ) → i < n → Within n b → Within n (ranked b num syy i)
+ranked-within : (n : ℕ) (b : Best) (c : Candidate) → c.at < n → Within n b → Within n (ranked b c)
 unfolding ranked
-ranked-within n b num syy i h w = go (lt (mul binary32 b.num1 syy) (mul binary32 num b.den1)) (lt (mul binary32 b.num0 syy) (mul binary32 num b.den0))
+ranked-within n b c h w = go (beats c b.second) (beats c b.first)
   where
-    go : (p q : Bool)
-        → Within n
-        (cond p
-        (cond q (record { num0 = num; den0 = syy; at0 = i; num1 = b.num0; den1 = b.den0; at1 = b.at0 })
-        (record { num0 = b.num0; den0 = b.den0; at0 = b.at0; num1 = num; den1 = syy; at1 = i }))
-        b)
+    go : (p q : Bool) → Within n (cond p (cond q (record { first = c; second = b.first }) (record { first = b.first; second = c })) b)
     go true true = record { first = h; second = w.first }
     go true false = record { first = w.first; second = h }
     go false q = w
 
 considered-within : (n : ℕ) (b : Best) (x syy : Float) (i : ℕ) → i < n → Within n b → Within n (considered b x syy i)
 unfolding considered
-considered-within n b x syy i h w = cond_either (Within n) (lt zero32 x) (ranked b (mul binary32 x x) syy i) b (ranked-within n b (mul binary32 x x) syy i h w) w
+considered-within n b x syy i h w =
+    let c : Candidate = record { num = mul binary32 x x; den = syy; at = i } in
+    cond_either (Within n) (lt zero32 x) (ranked b c) b (ranked-within n b c h w) w
 
 -- of two places or more, the two best are among them
 pub best-within : (xcorr y : List Float) (len n : ℕ) → 1 < n → Within n (find_best_pitch xcorr y len n)

@@ -2,8 +2,6 @@
 use Rattle.std.specs.Prelude.{ℕ, ◌+◌, ◌*◌, ◌-◌, cond, List, get_or, drop, Float}
 use Rattle.std.specs.Float.{nan}
 use Rattle.loops.specs.Front.{tab}
-use Rattle.plc_best.specs.declared.Pitches.{Pitches}
-use Rattle.plc_best.specs.declared.Pitches.TheVariants.{Pair, Refused}
 use Rattle.plc_correlate.specs.Correlation.{correlation}
 use Rattle.plc_search.specs.Search.{near}
 
@@ -14,12 +12,3 @@ near_row y b = tab (λ (k : ℕ). correlation (drop 360 y) y 664 (2 * b - 2 + k)
 -- what b's row has for place i, and v where i is not near
 unfoldable pub near_or : List Float → ℕ → ℕ → Float → Float
 near_or row b i v = cond (near b i) (get_or row (i - (2 * b - 2)) nan) v
-
--- the two places of a pair; 0 and 1 where there is none
-unfoldable pub first_of : Pitches → ℕ
-first_of (Pair a b) = a
-first_of Refused = 0
-
-unfoldable pub second_of : Pitches → ℕ
-second_of (Pair a b) = b
-second_of Refused = 1

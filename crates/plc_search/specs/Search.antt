@@ -24,7 +24,7 @@ unfoldable pub coarse : List Float → List Float
 coarse y = tab (correlation (every_second (drop 360 y) 332) (every_second y 487) 332) 155
 
 unfoldable pub fine : List Float → Best → List Float
-fine y b = tab (fine_at y b.at0 b.at1) 310
+fine y b = tab (fine_at y b.first.at b.second.at) 310
 
 -- 0.7
 abbrev pub seven_tenths : Float
@@ -49,4 +49,4 @@ fine_best y = find_best_pitch (fine y (coarse_best y)) y 664 310
 
 -- the offset that is found: the lag is 720 less it
 unfoldable pub pitch_search : List Float → ℕ
-pitch_search y = refined (fine y (coarse_best y)) (fine_best y).at0
+pitch_search y = refined (fine y (coarse_best y)) (fine_best y).first.at

@@ -1,9 +1,14 @@
 use Rattle.buffers.specs.Buffers.{zero32}
-use Rattle.plc_search.proofs.Near.{near-row}
+use Rattle.plc_search.proofs.Near.{near-row, near-taken}
 use mathlib.Core.Path.{refl}
 use lib.ListN.{replicate}
 use borrow.Author.Rules.{rules}
 use Rattle.plc_search.proofs.near_row.Goals as goal
+
+pub unwrap-requires : goal.unwrap-requires
+unwrap-requires c =
+    let a = c.args in
+    near-taken a.y.now (replicate 5 zero32) a.b _ c.first_near-lo.ensures (search rules) (search rules) refl c.correlate.ensures
 
 pub returns : goal.returns
 returns c =

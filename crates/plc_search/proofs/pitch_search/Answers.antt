@@ -1,18 +1,19 @@
-use Rattle.plc_search.proofs.Steps.{first-within, second-within, fine-within, search-done}
-use mathlib.Core.Path.{refl}
+use Rattle.plc_search.proofs.Steps.{coarse-least, fine-pair, fine-least, search-done}
+use mathlib.Core.Path.{ap}
 use borrow.Author.Rules.{rules}
+use Rattle.std.specs.Prelude.{is_some}
 use Rattle.plc_search.proofs.pitch_search.Goals as goal
 
-pub fine_row-requires : goal.fine_row-requires
-fine_row-requires c =
-    let e = c.coarse_best-b.ensures in
-    (search rules, first-within _ e c.first.ensures, second-within _ e c.second.ensures, refl)
+pub fine_row-xcorr-requires : goal.fine_row-xcorr-requires
+fine_row-xcorr-requires c = let h = coarse-least _ c.coarse_best-b0.ensures in (search rules, h.0, h.1)
+
+pub unwrap-best-requires : goal.unwrap-best-requires
+unwrap-best-requires c = ap is_some (fine-pair _ _ (search rules) (search rules) c.find_best_pitch.ensures)
 
 pub refine-requires : goal.refine-requires
-refine-requires c = fine-within _ _ c.find_best_pitch-found.ensures c.first-2.ensures (search rules) (search rules)
+refine-requires c = fine-least _ _ (search rules) (search rules) c.find_best_pitch.ensures c.unwrap-best.ensures
 
 pub returns : goal.returns
 returns c =
-    search-done _ _ c.coarse_best-b.ensures c.first.ensures
-    c.second.ensures c.fine_row.ensures
-    c.find_best_pitch-found.ensures c.first-2.ensures c.refine.ensures (search rules) (search rules)
+    search-done _ _ c.coarse_best-b0.ensures c.fine_row-xcorr.ensures c.find_best_pitch.ensures c.unwrap-best.ensures c.refine.ensures (search rules)
+    (search rules)
