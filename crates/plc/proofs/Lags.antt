@@ -4,6 +4,8 @@ use mathlib.Core.List.{List}
 use Prim.Native.Nat.{ℕ, ◌+◌, ◌-◌, ◌≤◌, ◌<◌}
 use native.Mathlib.Omega.{arith}
 use lib.ListN.{length, get_or, set}
+use Rattle.std.proofs.Common.{reverse, ext_get_or}
+use Rattle.std.proofs.lemmas.List.{get_or-reverse, length-reverse}
 use lib.Ieee.{Float, nan, binary32, add, mul}
 use Rattle.loops.specs.Front.{front, tab, tab-read, tab-more, get_or-tab, length-tab}
 use Rattle.loops.specs.Sum.{sum_to, sum-none, sum_more}
@@ -38,12 +40,17 @@ row_more x n i j k row₀ row e₀ e h g ek =
     tab-read (row_at x n (i + 1)) nan row₀ row j e (omega arith) ∙ ap (λ z. get_or z j nan) e₀ ∙ get_or-tab (row_at x n i) n j nan h in
     tab-more (row_at x n (i + 1)) nan row₀ row j e _ (lag_more x (n - 1 - j) i k (get_or row j nan) (omega arith) ek r) (omega arith)
 
--- the sum of a lag in a row that has the longest first
-pub turned : (x : List Float) (n lag : ℕ) (row : List Float) → row ≡ lag_row x n (length x) → lag < n → get_or row (n - 1 - lag) nan ≡ lag_sum x lag
-turned x n lag row e h =
-    let p : n - 1 - (n - 1 - lag) ≡ lag = omega arith in
-    ap (λ z. get_or z (n - 1 - lag) nan) e ∙ get_or-tab (row_at x n (length x)) n (n - 1 - lag) nan (omega arith)
-    ∙ ap (λ z. lag_to x z (length x)) p
+-- a row that has the longest lag first, turned
+pub turned : (x : List Float) (n : ℕ) (row y : List Float) → row ≡ lag_row x n (length x) → y ≡ reverse row → y ≡ tab (lag_sum x) n
+turned x n row y e r =
+    let l : length row ≡ n = ap length e ∙ length-tab (row_at x n (length x)) n in
+    let m : length y ≡ n = ap length r ∙ length-reverse row ∙ l in
+    ext_get_or nan y (tab (lag_sum x) n) (m ∙ sym (length-tab (lag_sum x) n))
+    (λ k h.
+    let p : n - 1 - (length row - 1 - k) ≡ k = omega arith in
+    ap (λ z. get_or z k nan) r ∙ get_or-reverse row k nan (omega arith) ∙ ap (λ z. get_or z (length row - 1 - k) nan) e
+    ∙ get_or-tab (row_at x n (length x)) n (length row - 1 - k) nan (omega arith) ∙ ap (λ z. lag_to x z (length x)) p
+    ∙ sym (get_or-tab (lag_sum x) n k nan (omega arith)))
 
 -- the noise floor on the first
 pub floored : (x : List Float) (n : ℕ) (ac : List Float) → ac ≡ tab (lag_sum x) n → 0 < n
@@ -52,7 +59,3 @@ unfolding celt_autocorr
 floored x n ac e h =
     ap (λ z. set z 0 (add binary32 (get_or z 0 nan) floor32)) e
     ∙ ap (λ z. set (tab (lag_sum x) n) 0 (add binary32 z floor32)) (get_or-tab (lag_sum x) n 0 nan h)
-
--- a row of lags knows how many it has
-pub row-size : (x row : List Float) (n end : ℕ) → row ≡ lag_row x n end → length row ≡ n
-row-size x row n end e = ap length e ∙ length-tab (row_at x n end) n

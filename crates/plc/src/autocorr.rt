@@ -11,15 +11,14 @@ fn first_terms(x: &[f32], row: &mut [f32])
     requires { (0 < length row.old) × (length row.old ≤ length x.now) }
     ensures { row.new ≡ lag_row x.now (length row.old) (length row.old - 1) }
 {
-    let lags = row.len();
-    let top = lags - 1;
-    for j in 0..lags {
+    let top = row.len() - 1;
+    for (j, sum) in row.iter_mut().enumerate() {
         let lag = top - j;
         let mut d = 0.0f32;
         for i in lag..top {
             d = d + x[i] * x[i - lag];
         }
-        row[j] = d;
+        *sum = d;
     }
 }
 
@@ -28,50 +27,38 @@ fn other_terms(x: &[f32], row: &mut [f32])
     requires { (0 < length row.old) × (length row.old ≤ length x.now) × (row.old ≡ lag_row x.now (length row.old) (length row.old - 1)) }
     ensures { row.new ≡ lag_row x.now (length row.old) (length x.now) }
 {
-    let n = x.len();
-    let lags = row.len();
-    let top = lags - 1;
-    for i in top..n {
+    let top = row.len() - 1;
+    for i in top..x.len() {
         let v = x[i];
-        for j in 0..lags {
-            row[j] = row[j] + v * x[i - top + j];
+        for (j, sum) in row.iter_mut().enumerate() {
+            *sum = *sum + v * x[i - top + j];
         }
     }
 }
 
-// The sums by lag, shortest first, and the noise floor.
-fn by_lag(x: &[f32], row: &[f32], ac: &mut [f32])
-    requires { (0 < length row.now) × (length row.now ≡ length ac.old) × (row.now ≡ lag_row x.now (length row.now) (length x.now)) }
-    ensures { ac.new ≡ celt_autocorr x.now (length ac.old) }
+// The correlations at the lags below LAGS, the noise floor on the first.
+fn correlations<const LAGS: usize>(x: &[f32; 1024]) -> [f32; LAGS]
+    requires { (0 < LAGS) × (LAGS ≤ 1024) }
+    ensures { result ≡ celt_autocorr x.now LAGS }
 {
-    let lags = row.len();
-    for lag in 0..lags {
-        ac[lag] = row[lags - 1 - lag];
-    }
-    ac[0] = ac[0] + NOISE_FLOOR;
+    let mut row = [0.0f32; LAGS];
+    first_terms(x, &mut row);
+    other_terms(x, &mut row);
+    row.reverse();
+    row[0] = row[0] + NOISE_FLOOR;
+    row
 }
 
 // The correlations at the lags 0 to 4.
 pub fn celt_autocorr(x: &[f32; 1024]) -> [f32; 5]
     ensures { result ≡ celt_autocorr x.now 5 }
 {
-    let mut row = [0.0f32; 5];
-    first_terms(x, &mut row);
-    other_terms(x, &mut row);
-    let mut ac = [0.0f32; 5];
-    by_lag(x, &row, &mut ac);
-    ac
+    correlations(x)
 }
 
 // The correlations at the lags 0 to 24, the window on both ends.
 pub fn celt_autocorr_windowed(x: &[f32; 1024], window: &[f32; 120]) -> [f32; 25]
     ensures { result ≡ celt_autocorr (windowed_ends x.now window.now) 25 }
 {
-    let xx = plc_window::windowed_ends(x, window);
-    let mut row = [0.0f32; 25];
-    first_terms(&xx, &mut row);
-    other_terms(&xx, &mut row);
-    let mut ac = [0.0f32; 25];
-    by_lag(&xx, &row, &mut ac);
-    ac
+    correlations(&plc_window::windowed_ends(x, window))
 }
