@@ -3,6 +3,8 @@ ghost use Rattle.std.specs.Prelude.{◌≡◌, ◌+◌, ◌-◌, ◌≤◌, ◌<
 ghost use Rattle.plc_window.specs.Window.{windowed_ends};
 ghost use Rattle.plc.specs.Autocorr.{celt_autocorr, lag_row};
 
+// The samples that are correlated: 1,024.
+pub const SAMPLES: usize = 1024;
 // What the correlation at lag 0 rises by.
 const NOISE_FLOOR: f32 = 10.0;
 
