@@ -1,4 +1,4 @@
-// The steps of de-emphasis, and what a call answers. Nothing here knows whether the frame was lost.
+// The steps of de-emphasis. Nothing here knows whether the frame was lost.
 
 #![tactic(auto)]
 
@@ -9,14 +9,8 @@ use custom_mode::standard::preemph;
 
 const PER_SCALE: f32 = 0.000030517578125;
 
-// Whether the lengths fitted, and the memories of both channels.
-#[derive(Clone, Copy)]
-pub struct Deemphasised {
-    pub taken: bool,
-    pub memories: [f32; 2],
-}
-
 // The memory after the sample v. The product with v stays, though its coefficient is 0: it turns an infinite v into NaN.
+#[tactic(auto, unfolding(crate::specs::Deemphasis::next_memory))]
 pub fn next_memory(mem: f32, v: f32) -> f32
     ensures { result ≡ next_memory mem v }
 {
@@ -26,6 +20,7 @@ pub fn next_memory(mem: f32, v: f32) -> f32
 }
 
 // What the sample v leaves as.
+#[tactic(auto, unfolding(crate::specs::Deemphasis::pcm_value))]
 pub fn pcm_value(mem: f32, v: f32) -> f32
     ensures { result ≡ pcm_value mem v }
 {
@@ -35,14 +30,9 @@ pub fn pcm_value(mem: f32, v: f32) -> f32
 }
 
 // Whether every downsample-th of n samples can be kept in `room` places.
+#[tactic(auto, unfolding(crate::specs::Deemphasis::has_room))]
 pub fn has_room(downsample: usize, n: usize, room: usize) -> bool
     ensures { result ≡ has_room downsample n room }
 {
-    if downsample < 1 {
-        return false;
-    }
-    if n % downsample != 0 {
-        return false;
-    }
-    n / downsample <= room
+    1 <= downsample && n % downsample == 0 && n / downsample <= room
 }

@@ -4,10 +4,11 @@
 
 ghost use Rattle.std.specs.Prelude.{◌≡◌, [], ◌∷◌, ◌/◌, length};
 ghost use Rattle.loops.specs.Front.{front, tab};
-ghost use Rattle.reply.specs.Reply.{reply};
+ghost use Rattle.reply.specs.Reply.{replied, value_or};
 ghost use Rattle.deemphasis.specs.Deemphasis.{memory_to, Room, value_at, sound, deemphasis_mono};
 
-use deemphasis::{Deemphasised, has_room, next_memory, pcm_value};
+use deemphasis::{has_room, next_memory, pcm_value};
+use reply::Refused;
 
 // One channel's PCM, and its memory after all samples.
 fn filter_mono(v: &[f32], memory: f32, downsample: usize, pcm: &mut [f32]) -> f32
@@ -36,21 +37,13 @@ pub fn deemphasis_mono(
     memories: [f32; 2],
     downsample: usize,
     pcm: &mut [f32],
-) -> Deemphasised
-    ensures { reply result.taken (sound pcm.new result.memories) ≡ deemphasis_mono downsample v.now memories pcm.old }
+) -> Result<[f32; 2], Refused>
+    ensures { replied result (sound pcm.new (value_or memories result)) ≡ deemphasis_mono downsample v.now memories pcm.old }
 {
-    let room = pcm.len();
-    let fits = has_room(downsample, v.len(), room);
-    if fits {
-        let mut after = memories;
-        after[0] = filter_mono(v, memories[0], downsample, pcm);
-        return Deemphasised {
-            taken: true,
-            memories: after,
-        };
+    if !has_room(downsample, v.len(), pcm.len()) {
+        return Err(Refused);
     }
-    Deemphasised {
-        taken: false,
-        memories: memories,
-    }
+    let mut after = memories;
+    after[0] = filter_mono(v, memories[0], downsample, pcm);
+    Ok(after)
 }

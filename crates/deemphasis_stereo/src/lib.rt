@@ -4,10 +4,11 @@
 
 ghost use Rattle.std.specs.Prelude.{◌≡◌, [], ◌∷◌, ◌*◌, ◌/◌, length};
 ghost use Rattle.loops.specs.Front.{front, tab};
-ghost use Rattle.reply.specs.Reply.{reply};
+ghost use Rattle.reply.specs.Reply.{replied, value_or};
 ghost use Rattle.deemphasis.specs.Deemphasis.{memory_to, Room, value_at, sound, deemphasis_stereo};
 
-use deemphasis::{Deemphasised, has_room, next_memory, pcm_value};
+use deemphasis::{has_room, next_memory, pcm_value};
+use reply::Refused;
 
 // Both channels in one loop, so that their two chains of additions run side by side.
 fn filter_stereo(
@@ -47,24 +48,11 @@ pub fn deemphasis_stereo(
     memories: [f32; 2],
     downsample: usize,
     pcm: &mut [f32],
-) -> Deemphasised
-    ensures { reply result.taken (sound pcm.new result.memories) ≡ deemphasis_stereo downsample v.now w.now memories pcm.old }
+) -> Result<[f32; 2], Refused>
+    ensures { replied result (sound pcm.new (value_or memories result)) ≡ deemphasis_stereo downsample v.now w.now memories pcm.old }
 {
-    let n = v.len();
-    let other = w.len();
-    if n == other {
-        let room = pcm.len() / 2;
-        let fits = has_room(downsample, n, room);
-        if fits {
-            let after = filter_stereo(v, w, memories[0], memories[1], downsample, pcm);
-            return Deemphasised {
-                taken: true,
-                memories: after,
-            };
-        }
+    if v.len() != w.len() || !has_room(downsample, v.len(), pcm.len() / 2) {
+        return Err(Refused);
     }
-    Deemphasised {
-        taken: false,
-        memories: memories,
-    }
+    Ok(filter_stereo(v, w, memories[0], memories[1], downsample, pcm))
 }

@@ -1,6 +1,6 @@
 -- What an accepted call knows, and what its end leaves.
 use mathlib.Core.Path.{◌≡◌, refl, ap, ap₂, sym, ◌∙◌}
-use mathlib.Core.Bool.{Bool, not}
+use mathlib.Core.Bool.{Bool, true, not}
 use mathlib.Core.List.{List}
 use Prim.Native.Nat.{ℕ, zero, suc, ◌≤◌, ◌<◌}
 use native.Mathlib.Omega.{arith}
@@ -9,16 +9,21 @@ use lib.Dec.{leb, eqb}
 use lib.Ieee.{Float}
 use borrow.Author.Tests.{leb-true, eqb-false, not-true}
 use Rattle.loops.specs.Front.{front}
-use Rattle.reply.specs.Reply.{reply, reply_if, reply-lent}
+use Rattle.reply.specs.Reply.{reply, reply_if, reply-lent, reply-taken}
 use Rattle.settings.specs.Settings.{needed}
+use Rattle.std.specs.Prelude.{Result, Err}
+use Rattle.settings.specs.Number.{number_of}
+use Rattle.settings.specs.declared.Refusal.{Refusal}
 use Rattle.settings.proofs.Passed.{or-zero, passes}
+use Rattle.settings.proofs.Table.{number_low}
+use Rattle.state.specs.declared.Answer.{Answer}
 use Rattle.state.specs.Refusal.{check_count, check_pcm, refuses_state, refusal}
 use Rattle.state.specs.declared.State.{State}
 use Rattle.state.proofs.Keep.{ok-start}
 use Rattle.deemphasis.specs.Deemphasis.{Sound, sound}
 use Rattle.frame_sound.specs.FrameSound.{sound_takes}
 use Rattle.frame_sound.proofs.Takes.{takes_all}
-use Rattle.finish.specs.Finish.{Outcome, frame_sound, finish_with, finish, refused, in_buffer, sound_in, finished_by, finished}
+use Rattle.finish.specs.Finish.{Outcome, outcome_of, frame_sound, finish_with, finish, refused, in_buffer, sound_in, finished_by, finished}
 use Rattle.finish.specs.declared.Made.{Made}
 
 module _ (s : State) (n p : ℕ) (z : refusal s n p ≡ 0) where
@@ -42,10 +47,11 @@ module _ (s : State) (n p : ℕ) (z : refusal s n p ≡ 0) where
 -- so its frame's sound is made
 pub heard : (s : State) (h p : List Float) (t : Bool) (y : Sound) → refusal s (length h) (length p) ≡ 0
     → reply t y ≡ reply_if (sound_takes s.settings (length h) (length p)) (sound_in p (frame_sound s.settings s.memories h)) (sound p s.memories)
-    → y ≡ sound_in p (frame_sound s.settings s.memories h)
+    → (t ≡ true) × (y ≡ sound_in p (frame_sound s.settings s.memories h))
 heard s h p t y z e =
     let o = ok-start s h (accepted_state s _ _ z) in
-    reply-lent _ _ _ e (takes_all s.settings (length h) (length p) o.settings o.history (accepted_room s _ _ z))
+    let b = takes_all s.settings (length h) (length p) o.settings o.history (accepted_room s _ _ z) in
+    (reply-taken _ _ _ e ∙ b, reply-lent _ _ _ e b)
 
 -- the end of either path
 pub finish-left : (s : State) (m : Made) (h p : List Float) (y : Sound) (n : ℕ)
@@ -54,10 +60,9 @@ unfolding finish in_buffer sound_in
 finish-left s m h p y n e f = ap₂ (finish_with s m h) e f
 
 -- a refused call, as its caller finds it
-pub refused-is : (n : ℕ) (s : State) (h p : List Float)
-    → ◌≡◌ {A = Outcome} (record { report = record { number = n; kind = 0; samples = 0 }; pcm = p; state = s; history = h }) (in_buffer p (refused n s h))
+pub refused-is : (e : Refusal) (s : State) (h p : List Float) → outcome_of s (Err e) p h ≡ in_buffer p (refused (number_of e) s h)
 unfolding refused in_buffer front
-refused-is n s h p = refl
+refused-is e s h p = refl
 
 module _ (s : State) (m : Made) (h p : List Float) where
   pub finished_accepted : refusal s (length h) (length p) ≡ 0 → finish s m h ≡ finished s m h (length p)
@@ -73,6 +78,9 @@ module _ (s : State) (m : Made) (h p : List Float) where
   refuses zero f = absurd (f refl)
   refuses (suc n) f = refl
 
-  pub finished-refused : (n : ℕ) → n ≡ refusal s (length h) (length p) → (n ≡ 0 → ⊥) → in_buffer p (refused n s h) ≡ in_buffer p (finished s m h (length p))
+  pub finished-refused : (r : Result Answer Refusal) (e : Refusal) → r ≡ Err e → number_of e ≡ refusal s (length h) (length p)
+      → outcome_of s r p h ≡ in_buffer p (finished s m h (length p))
   unfolding finished
-  finished-refused n e f = ap (in_buffer p) (refuses n f ∙ ap (λ z. finished_by z s m h) e)
+  finished-refused r e q f =
+      ap (λ z. outcome_of s z p h) q ∙ refused-is e s h p
+      ∙ ap (in_buffer p) (refuses (number_of e) (number_low e) ∙ ap (λ z. finished_by z s m h) f)

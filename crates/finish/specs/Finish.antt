@@ -1,8 +1,9 @@
 -- The end of a call, whichever path it went: what it answers and leaves.
-use Rattle.std.specs.Prelude.{List, [], ℕ, zero, suc, ◌+◌, length, Float}
+use Rattle.std.specs.Prelude.{List, [], ℕ, zero, suc, ◌+◌, length, Float, Result, Ok, Err}
 use Rattle.settings.specs.Settings.{needed}
+use Rattle.settings.specs.declared.Refusal.{Refusal}
 use Rattle.state.specs.Refusal.{refusal}
-use Rattle.state.specs.Answer.{Report, report_of}
+use Rattle.state.specs.Answer.{Report, kind_of, report_of}
 use Rattle.state.specs.declared.State.{State}
 use Rattle.state.specs.declared.Answer.{Answer}
 use Rattle.deemphasis.specs.Deemphasis.{Sound}
@@ -20,7 +21,7 @@ pub record Outcome : Type 0 where
 -- an accepted loss, from what its path made, the history that it left, its sound and its number of samples
 abbrev pub finish_with : State → Made → List Float → Sound → ℕ → Outcome
 finish_with s m h y n = record {
-  report = record { number = 0; kind = m.kind; samples = n };
+  report = record { number = 0; kind = kind_of m.kind; samples = n };
   pcm = y.pcm;
   state = record {
     settings = s.settings;
@@ -54,8 +55,13 @@ finished s m h p = finished_by (refusal s (length h) p) s m h
 
 -- ---- the same as a caller finds it: the answer, the PCM buffer and the history
 
-abbrev pub outcome_of : Answer → List Float → List Float → Outcome
-outcome_of a pcm h = record { report = report_of a; pcm = pcm; state = a.state; history = h }
+-- the state after it: a refusal leaves the one that was lent
+abbrev pub state_after : State → Result Answer Refusal → State
+state_after s (Ok a) = a.state
+state_after s (Err e) = s
+
+abbrev pub outcome_of : State → Result Answer Refusal → List Float → List Float → Outcome
+outcome_of s r pcm h = record { report = report_of r; pcm = pcm; state = state_after s r; history = h }
 
 unfoldable pub in_buffer : List Float → Outcome → Outcome
 in_buffer p o = record { report = o.report; pcm = written o.pcm p; state = o.state; history = o.history }

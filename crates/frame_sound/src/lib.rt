@@ -3,15 +3,15 @@
 #![tactic(auto)]
 
 ghost use Rattle.std.specs.Prelude.{◌≡◌, ◌≤◌, length};
-ghost use Rattle.reply.specs.Reply.{reply, reply_if};
+ghost use Rattle.reply.specs.Reply.{replied, value_or, reply_if};
 ghost use Rattle.history.specs.History.{whole};
 ghost use Rattle.settings.specs.Settings.{check_settings, needed};
 ghost use Rattle.deemphasis.specs.Deemphasis.{sound};
 ghost use Rattle.frame_sound.specs.FrameSound.{frame_sound, sound_in, sound_takes};
 
-use deemphasis::Deemphasised;
 use deemphasis_mono::deemphasis_mono;
 use deemphasis_stereo::deemphasis_stereo;
+use reply::Refused;
 use settings::Settings;
 use settings::checks::settings_pass;
 use sizes::{frame_size, needed_samples};
@@ -24,28 +24,21 @@ fn deemphasise(k: Settings, history: &[f32], memories: [f32; 2], pcm: &mut [f32]
     let n = frame_size(k.lm);
     let d = k.downsample as usize;
     let end = history::SAMPLES;
-    let a = end - n;
+    let first = &history[end - n..end];
     if k.channels == 2 {
-        let last = history::CHANNEL + history::SAMPLES;
-        let b = last - n;
-        let both = deemphasis_stereo(&history[a..end], &history[b..last], memories, d, pcm);
-        return both.memories;
+        let last = history::CHANNEL + end;
+        deemphasis_stereo(first, &history[last - n..last], memories, d, pcm).unwrap()
+    } else {
+        deemphasis_mono(first, memories, d, pcm).unwrap()
     }
-    let one = deemphasis_mono(&history[a..end], memories, d, pcm);
-    one.memories
 }
 
 // Settings that pass, a whole history, and room for the samples.
+#[tactic(auto, unfolding(crate::specs::FrameSound::sound_takes))]
 fn sound_takes(k: Settings, n: usize, p: usize) -> bool
     ensures { result ≡ sound_takes k n p }
 {
-    if !settings_pass(k) {
-        return false;
-    }
-    if n != history::WHOLE {
-        return false;
-    }
-    needed_samples(k) <= p
+    settings_pass(k) && n == history::WHOLE && needed_samples(k) <= p
 }
 
 // The newest N samples of each used channel as PCM, and the memories after it. What is refused leaves PCM and memories.
@@ -54,20 +47,13 @@ pub fn frame_sound(
     history: &[f32],
     memories: [f32; 2],
     pcm: &mut [f32],
-) -> Deemphasised
-    ensures { reply result.taken (sound pcm.new result.memories)
+) -> Result<[f32; 2], Refused>
+    ensures { replied result (sound pcm.new (value_or memories result))
         ≡ reply_if (sound_takes k (length history.now) (length pcm.old))
         (sound_in pcm.old (frame_sound k memories history.now)) (sound pcm.old memories) }
 {
-    if sound_takes(k, history.len(), pcm.len()) {
-        let after = deemphasise(k, history, memories, pcm);
-        return Deemphasised {
-            taken: true,
-            memories: after,
-        };
+    if !sound_takes(k, history.len(), pcm.len()) {
+        return Err(Refused);
     }
-    Deemphasised {
-        taken: false,
-        memories: memories,
-    }
+    Ok(deemphasise(k, history, memories, pcm))
 }

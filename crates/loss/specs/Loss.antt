@@ -5,13 +5,14 @@ use Rattle.settings.specs.Settings.{frame, stereo}
 use Rattle.state.specs.State.{Core, core, noisy, searches}
 use Rattle.state.specs.Refusal.{refusal}
 use Rattle.state.specs.declared.State.{State}
+use Rattle.state.specs.declared.Kind.TheVariants.{Pitch, Noise}
 use Rattle.pitch_lag.specs.Lag.{lag_of}
 use Rattle.pitch_predictor.specs.Predictor.{fitted_to}
 use Rattle.pitch_loss.specs.PitchLoss.{pitch_tails}
 use Rattle.noise_energies.specs.Energies.{lower_energies, read_energies}
 use Rattle.noise_loss.specs.Loss.{Blocks, noise_blocks, noise_seed, noise_tails}
 use Rattle.finish.specs.declared.Made.{Made}
-pub use Rattle.finish.specs.Finish.{Outcome, finish_with, outcome_of, written}
+pub use Rattle.finish.specs.Finish.{Outcome, finish_with, state_after, outcome_of, written}
 unfoldable pub use Rattle.finish.specs.Finish.{frame_sound, finish, refused, in_buffer, sound_in}
 
 -- ---- the noise path: all of it but the old overlaps' part is a function of the core
@@ -26,7 +27,7 @@ blocks c = noise_blocks c.settings c.seed (read_energies c.count (lowered c) c.b
 
 unfoldable pub noise_made : State → Made
 noise_made s = record {
-  kind = 2;
+  kind = Noise;
   seed = noise_seed (stereo s.settings) (blocks (core s));
   lag = s.lag;
   coarse = lowered (core s);
@@ -37,7 +38,7 @@ noise_made s = record {
 
 unfoldable pub pitch_made : State → List Float → Made
 pitch_made s h = record {
-  kind = 1;
+  kind = Pitch;
   seed = s.seed;
   lag = cond (searches s) (lag_of (stereo s.settings) h) s.lag;
   coarse = s.coarse;

@@ -53,7 +53,7 @@ pub struct Answer {
 }
 
 // The first loss count that goes by noise at any start band.
-const FIRST_NOISE: u32 = 5;
+const FIRST_NOISE: u32 = checks::PITCH_LAST + 1;
 
 // Whether an accepted loss goes by noise.
 #[tactic(auto, unfolding(crate::specs::State::noisy))]

@@ -7,15 +7,15 @@ use Rattle.deemphasis_mono.proofs.deemphasis_mono.Goals as goal
 pub filter_mono-requires : goal.filter_mono-requires
 filter_mono-requires c =
     let a = c.args in
-    room a.downsample (length a.v.now) (length a.pcm.now) (sym c.has_room-fits.ensures ∙ c.if-fits.true)
-
-pub returns-then-fits : goal.returns-then-fits
-returns-then-fits c =
-    let a = c.args in
-    mono-done a.downsample a.v.now a.memories a.pcm.now (let here : length c.args.memories ≡ 2 = search rules in here) (sym c.has_room-fits.ensures ∙ c.if-fits.true)
-    c.filter_mono.result c.filter_mono.new.pcm c.filter_mono.ensures.0 c.filter_mono.ensures.1
+    room a.downsample (length a.v.now) (length a.pcm.now) (sym c.has_room.ensures ∙ c.if-not-has_room.false)
 
 pub returns : goal.returns
 returns c =
     let a = c.args in
-    mono-refused a.downsample a.v.now a.memories a.pcm.now (let here : length c.args.memories ≡ 2 = search rules in here) (sym c.has_room-fits.ensures ∙ c.if-fits.false)
+    mono-done a.downsample a.v.now a.memories a.pcm.now (let here : length c.args.memories ≡ 2 = search rules in here) (sym c.has_room.ensures ∙ c.if-not-has_room.false)
+    c.filter_mono.result c.filter_mono.new.pcm c.filter_mono.ensures.0 c.filter_mono.ensures.1
+
+pub returns-then-not-has_room : goal.returns-then-not-has_room
+returns-then-not-has_room c =
+    let a = c.args in
+    mono-refused a.downsample a.v.now a.memories a.pcm.now (let here : length c.args.memories ≡ 2 = search rules in here) (sym c.has_room.ensures ∙ c.if-not-has_room.true)

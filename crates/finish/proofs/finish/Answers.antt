@@ -1,18 +1,18 @@
 -- `finish::finish` meets its contract: refused by the first number that applies, else concluded.
-use mathlib.Core.Path.{sym, ◌∙◌}
-use Rattle.finish.proofs.End.{refused-is, concluded, finished-refused}
+use Rattle.std.proofs.Common.{sym}
+use Rattle.settings.proofs.Table.{exit_is}
+use Rattle.finish.proofs.End.{concluded, finished-refused}
 use Rattle.finish.proofs.finish.Goals as goal
 
-pub returns-then-value-ne0 : goal.returns-then-value-ne0
-returns-then-value-ne0 c =
+pub returns-in_err-first_refusal : goal.returns-in_err-first_refusal
+returns-in_err-first_refusal c =
     let x = c.args in
-    refused-is _ x.s x.history.now x.pcm.now
-    ∙ finished-refused x.s x.made x.history.now x.pcm.now _ c.first_refusal-number.ensures (λ z. c.if-value-ne0.true (c.value.ensures ∙ z))
+    finished-refused x.s x.made x.history.now x.pcm.now _ _ (exit_is _ _ c.from_residual.ensures.1) c.in_err-first_refusal.ensures
 
 pub conclude-requires : goal.conclude-requires
-conclude-requires c = sym c.first_refusal-number.ensures ∙ sym c.value.ensures ∙ c.if-value-ne0.false
+conclude-requires c = sym c.in_ok-first_refusal.ensures
 
 pub returns : goal.returns
 returns c =
     let x = c.args in
-    concluded x.s x.made x.history.now x.pcm.now _ c.conclude.ensures (sym c.first_refusal-number.ensures ∙ sym c.value.ensures ∙ c.if-value-ne0.false)
+    concluded x.s x.made x.history.now x.pcm.now _ c.conclude.ensures (sym c.in_ok-first_refusal.ensures)
