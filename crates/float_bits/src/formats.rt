@@ -5,5 +5,5 @@ ghost use Rattle.std.specs.Prelude.{◌≡◌};
 pub fn f32_to_f64(x: f32) -> f64
     ensures { result ≡ x }
 {
-    std::num::f32_to_f64_with_nan(x)
+    f64::from(x)
 }

@@ -1,50 +1,65 @@
 // 32-bit words: as floats, as noise values, and multiplied.
-ghost use Rattle.std.specs.Prelude.{◌≡◌, from_bits, to_bits};
+ghost use Rattle.std.specs.Prelude.{◌≡◌, ℕ, from_bits, to_bits};
 ghost use Rattle.std.specs.Float.{binary32};
-ghost use Rattle.float_bits.specs.Words.{signed, noise_value, wrapping_mul};
+ghost use Rattle.float_bits.specs.Words.{noise_value, wrapping_mul};
 
-// The f32 whose bits are w; every NaN's word is NaN.
-pub fn f32_from_word(w: u32) -> f32
-    ensures { result ≡ from_bits binary32 w }
-{
-    let magnitude = w % 0x8000_0000;
-    if 0x7f80_0000 < magnitude {
-        return 0.0 / 0.0;
-    }
-    f32::from_bits(w)
+use std::num::{f32_from_bits_with_nan, f32_to_bits_with_nan};
+
+// What one 32-bit word holds.
+pub trait Word: Copy {
+    // the value of a word, and the word of a value
+    ghost of_word: { ℕ → Self };
+
+    ghost word_of: { Self → ℕ };
+
+    fn from_word(w: u32) -> Self
+        ensures { result ≡ of_word w };
+
+    fn to_word(self) -> u32
+        ensures { result ≡ word_of self };
 }
 
-// The bits of x; a NaN's are 7FC00000.
-pub fn f32_to_word(x: f32) -> u32
-    ensures { result ≡ to_bits binary32 x }
-{
-    if x != x {
-        return 0x7fc0_0000;
+impl Word for u32 {
+    ghost of_word = { λ w. w };
+
+    ghost word_of = { λ x. x };
+
+    fn from_word(w: u32) -> u32 {
+        w
     }
-    f32::to_bits(x)
+
+    fn to_word(self) -> u32 {
+        self
+    }
 }
 
-// A 32-bit word read as a signed number.
-fn signed_word(w: u32) -> i32
-    ensures { result ≡ signed w }
-{
-    if w < 0x8000_0000 {
-        return w as i32;
+impl Word for f32 {
+    ghost of_word = { from_bits binary32 };
+
+    ghost word_of = { to_bits binary32 };
+
+    // Every NaN's word is NaN.
+    fn from_word(w: u32) -> f32 {
+        f32_from_bits_with_nan(w)
     }
-    -1 - (0xffff_ffff - w) as i32
+
+    // A NaN's word is 7FC00000.
+    fn to_word(self) -> u32 {
+        f32_to_bits_with_nan(self)
+    }
 }
 
 // The word read as signed and shifted right by 20, from -2,048 to 2,047.
 pub fn noise_value(w: u32) -> f32
     ensures { result ≡ noise_value w }
 {
-    (signed_word(w) >> 20) as f32
+    (w.cast_signed() >> 20) as f32
 }
 
 // The low 32 bits of the product.
+#[tactic(auto, unfolding(crate::specs::Words::wrapping_mul))]
 pub fn wrapping_mul_u32(a: u32, b: u32) -> u32
     ensures { result ≡ wrapping_mul a b }
 {
-    let wide = (a as u64) * (b as u64);
-    (wide % 0x1_0000_0000) as u32
+    a.wrapping_mul(b)
 }

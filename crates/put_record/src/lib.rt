@@ -3,27 +3,23 @@
 #![tactic(auto)]
 
 ghost use Rattle.std.specs.Prelude.{◌≡◌};
-ghost use Rattle.reply.specs.Reply.{reply, reply_if};
+ghost use Rattle.reply.specs.Reply.{replied, reply_if};
 ghost use Rattle.record.specs.Record.{record_of, writable};
 
 use put_state_words::to_words;
-use put_words::{put_floats_at, put_words_at};
+use put_words::put_values_at;
 use record::{BYTES, HISTORY};
+use reply::Refused;
 use state::State;
 
 // The record of a state and its history. Other lengths than a record's and a history's leave b as it is.
-pub fn write_record(b: &mut [u8], s: State, history: &[f32]) -> bool
-    ensures { reply result b.new
+pub fn write_record(b: &mut [u8], s: State, history: &[f32]) -> Result<(), Refused>
+    ensures { replied result b.new
         ≡ reply_if (writable b.old history.now) (record_of s history.now) b.old }
 {
-    if b.len() != BYTES {
-        return false;
+    if b.len() != BYTES || history.len() != history::WHOLE {
+        return Err(Refused);
     }
-    if history.len() != history::WHOLE {
-        return false;
-    }
-    let w = to_words(s);
-    put_words_at(b, 0, &w);
-    put_floats_at(b, HISTORY, history);
-    true
+    put_values_at(b, 0, &to_words(s))?;
+    put_values_at(b, HISTORY, history)
 }

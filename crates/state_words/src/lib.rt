@@ -2,10 +2,10 @@
 
 #![tactic(auto)]
 
-ghost use Rattle.std.specs.Prelude.{◌≡◌, ◌+◌, ◌≤◌, length};
+ghost use Rattle.std.specs.Prelude.{◌≡◌, ◌+◌, ◌≤◌};
 ghost use Rattle.state_words.specs.Words.{state_length, floats_by, settings_by, filter_by, word_in, state_in};
 
-use float_bits::words::f32_from_word;
+use float_bits::words::Word;
 use post_filter::Filter;
 use settings::Settings;
 use state::State;
@@ -22,7 +22,8 @@ pub const MEMORIES: usize = 111;
 
 pub const PREDICTOR: usize = 113;
 
-fn settings_in(w: &[u32; 161]) -> Settings
+#[tactic(auto, unfolding(crate::specs::Words::settings_by))]
+fn settings_in(w: &[u32; WORDS]) -> Settings
     ensures { result ≡ settings_by (word_in w.now) }
 {
     Settings {
@@ -34,51 +35,42 @@ fn settings_in(w: &[u32; 161]) -> Settings
     }
 }
 
-fn filter_in(w: &[u32; 161]) -> Filter
+#[tactic(auto, unfolding(crate::specs::Words::filter_by))]
+fn filter_in(w: &[u32; WORDS]) -> Filter
     ensures { result ≡ filter_by (word_in w.now) }
 {
-    let gain = f32_from_word(w[9]);
     Filter {
-        gain: gain,
+        gain: f32::from_word(w[9]),
         period: w[8],
         tapset: w[10],
     }
 }
 
 // The floats of the words from the one numbered i on.
-fn floats_in(w: &[u32; 161], i: usize, out: &mut [f32])
-    requires { i + length out.old ≤ state_length }
-    ensures { out.new ≡ floats_by (word_in w.now) i (length out.old) }
+fn floats_in<const N: usize>(w: &[u32; WORDS], i: usize) -> [f32; N]
+    requires { i + N ≤ state_length }
+    ensures { result ≡ floats_by (word_in w.now) i N }
 {
-    let n = out.len();
-    for k in 0..n {
-        out[k] = f32_from_word(w[i + k]);
+    let mut out = [0.0; N];
+    for (k, x) in out.iter_mut().enumerate() {
+        *x = f32::from_word(w[i + k]);
     }
+    out
 }
 
 // The state of a caller's words.
-pub fn from_words(w: &[u32; 161]) -> State
+pub fn from_words(w: &[u32; WORDS]) -> State
     ensures { result ≡ state_in w.now }
 {
-    let settings = settings_in(w);
-    let filter = filter_in(w);
-    let mut coarse = [0.0f32; 50];
-    floats_in(w, COARSE, &mut coarse);
-    let mut background = [0.0f32; 50];
-    floats_in(w, BACKGROUND, &mut background);
-    let mut memories = [0.0f32; 2];
-    floats_in(w, MEMORIES, &mut memories);
-    let mut predictor = [0.0f32; 48];
-    floats_in(w, PREDICTOR, &mut predictor);
     State {
-        settings: settings,
+        settings: settings_in(w),
         loss_count: w[5],
         seed: w[6],
         lag: w[7],
-        filter: filter,
-        coarse: coarse,
-        background: background,
-        memories: memories,
-        predictor: predictor,
+        filter: filter_in(w),
+        coarse: floats_in(w, COARSE),
+        background: floats_in(w, BACKGROUND),
+        memories: floats_in(w, MEMORIES),
+        predictor: floats_in(w, PREDICTOR),
     }
 }

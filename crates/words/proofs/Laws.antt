@@ -1,18 +1,30 @@
 -- Words written one after the other, four bytes at a time.
 use mathlib.Core.Path.{◌≡◌, refl, ap, ap₂, ◌∙◌, sym}
-use mathlib.Core.Bool.{Bool, true, false, cond}
-use mathlib.Core.List.{List}
-use Prim.Native.Nat.{ℕ, ◌+◌, ◌*◌, ◌/◌, ◌%◌, ◌≤◌, ◌<◌}
+use mathlib.Core.Bool.{Bool, true, false}
+use mathlib.Core.List.{List, [], ◌∷◌, ◌++◌}
+use Prim.Native.Nat.{ℕ, zero, suc, min, ◌+◌, ◌*◌, ◌/◌, ◌%◌, ◌≤◌, ◌<◌}
 use native.Mathlib.Omega.{arith}
 use native.Mathlib.Nat.{div-one}
-use lib.ListN.{length, get_or, set}
+use Rattle.std.proofs.Common.{append_assoc}
+use lib.ListN.{length, get_or, drop}
+use Rattle.std.specs.Int.{w32, to_le_bytes}
+use Rattle.std.specs.Simd.{first_chunks}
+use Rattle.std.proofs.lemmas.List.{get_or-take, get_or-drop}
 use lib.Dec.{leb}
 use borrow.Author.Tests.{le-leb, lt-leb, leb-true, leb-false}
-use Rattle.loops.specs.Part.{put}
+use Rattle.loops.specs.Part.{put, put_next}
 use Rattle.reply.specs.Reply.{reply, reply_if, reply-lent}
 use Rattle.loops.specs.Pick.{pick_true, pick-false}
-use Rattle.loops.specs.Front.{tab, length-tab, front, tab-none, tab-more, tab-all}
+use Rattle.loops.specs.Front.{tab, length-tab, front, tab-none, tab-all}
 use Rattle.words.specs.Bytes.{holds, word_at, byte_of, bytes_by}
+
+-- byte j of the chunk numbered i
+pub chunk_byte : (k i j : ℕ) (b : List ℕ) → i < k → j < 4 → get_or (get_or (first_chunks 4 k b) i []) j 0 ≡ get_or b (4 * i + j) 0
+chunk_byte zero i j b h l = let z : ⊥ = omega arith in absurd z
+chunk_byte (suc k) zero j b h l = let e : j ≡ 4 * 0 + j = omega arith in get_or-take 4 b j 0 l ∙ ap (λ z. get_or b z 0) e
+chunk_byte (suc k) (suc i) j b h l =
+    let e : 4 + (4 * i + j) ≡ 4 * suc i + j = omega arith in
+    chunk_byte k i j (drop 4 b) (omega arith) l ∙ get_or-drop 4 b (4 * i + j) 0 ∙ ap (λ z. get_or b z 0) e
 
 module _ (b : List ℕ) (i : ℕ) where
   pub holds-true : (n : ℕ) → 4 * (i + n) ≤ length b → holds b i n ≡ true
@@ -36,26 +48,50 @@ module _ (b : List ℕ) (i : ℕ) where
   unfolding word_at
   word_in l = pick_true (holds b i 1) _ 0 (holds-true 1 l)
 
--- past the last word every word reads the same
-pub capped_same : (b : List ℕ) (i from j : ℕ) → from ≡ cond (leb i (length b)) i (length b) → word_at b (from + j) ≡ word_at b (i + j)
-capped_same b i from j e = go (leb i (length b)) refl e
-  where
-    go : (c : Bool) → leb i (length b) ≡ c → from ≡ cond c i (length b) → word_at b (from + j) ≡ word_at b (i + j)
-    go true t f = ap (λ z. word_at b (z + j)) f
-    go false t f =
-        let past : length b < i = leb-false i (length b) t in
-        word-past b (from + j) (omega arith) ∙ sym (word-past b (i + j) (omega arith))
+  -- of its bytes
+  pub word_of_bytes : (n : ℕ) (w : List ℕ) → i < n → n ≡ length b / 4 → w ≡ get_or (first_chunks 4 n b) i []
+      → get_or w 0 0 + get_or w 1 0 * 256 + get_or w 2 0 * 65536 + get_or w 3 0 * 16777216 ≡ word_at b i
+  word_of_bytes n w h e q =
+      let d : (j : ℕ) → j < 4 → get_or w j 0 ≡ get_or b (4 * i + j) 0 =
+      λ j l. ap (λ z. get_or z j 0) q ∙ chunk_byte n i j b h l in
+      let z : 4 * i + 0 ≡ 4 * i = omega arith in
+      let d0 : get_or w 0 0 ≡ get_or b (4 * i) 0 = d 0 (omega arith) ∙ ap (λ k. get_or b k 0) z in
+      omega (arith, d0, d 1 (omega arith), d 2 (omega arith), d 3 (omega arith), word_in (omega arith))
 
-pub capped_le : (i n from : ℕ) → from ≡ cond (leb i n) i n → from ≤ n
-capped_le i n from e = go (leb i n) refl e
+-- past the last word every word reads the same
+word_same : (b : List ℕ) (i m n : ℕ) → length b ≤ n → m ≡ min i n → word_at b m ≡ word_at b i
+word_same b i m n l e = go (leb i n) refl
   where
-    go : (c : Bool) → leb i n ≡ c → from ≡ cond c i n → from ≤ n
-    go true t f = omega (arith, leb-true i n t)
-    go false t f = omega arith
+    go : (c : Bool) → leb i n ≡ c → word_at b m ≡ word_at b i
+    go true t = let h : i ≤ n = leb-true i n t in let q : m ≡ i = omega arith in ap (word_at b) q
+    go false t =
+        let h : n < i = leb-false i n t in
+        word-past b m (omega arith) ∙ sym (word-past b i (omega arith))
+
+-- the value of a word whose number was added to as far as it goes
+pub value_same : {A : Type 0} (f : ℕ → A) (b : List ℕ) (i m n w : ℕ) (v : A) → length b ≤ n → m ≡ min i n → w ≡ word_at b m → v ≡ f w → v ≡ f (word_at b i)
+value_same f b i m n w v l e p q = q ∙ ap f (p ∙ word_same b i m n l e)
 
 pub length-bytes : (w : ℕ → ℕ) (n : ℕ) → length (bytes_by w n) ≡ 4 * n
 unfolding bytes_by
 length-bytes w n = length-tab _ (4 * n)
+
+after_four : (xs : List ℕ) (a b c d : ℕ) → (((xs ++ (a ∷ [])) ++ (b ∷ [])) ++ (c ∷ [])) ++ (d ∷ []) ≡ xs ++ (a ∷ b ∷ c ∷ d ∷ [])
+after_four xs a b c d = simp append_assoc
+
+bytes_by-more : (w : ℕ → ℕ) (i : ℕ) → bytes_by w i ++ to_le_bytes w32 (w i) ≡ bytes_by w (i + 1)
+unfolding bytes_by tab byte_of
+bytes_by-more w i =
+    let f : ℕ → ℕ = λ (q : ℕ). byte_of (w (q / 4)) (q % 4) in
+    let s : suc (suc (suc (suc (4 * i)))) ≡ 4 * (i + 1) = omega arith in
+    let at : (q j : ℕ) → i ≡ q / 4 → j ≡ q % 4 → byte_of (w i) j ≡ f q = λ q j e r. ap₂ (λ a b. byte_of (w a) b) e r in
+    let d0 : w i % 256 ≡ f (4 * i) = ap (λ z. z % 256) (sym (div-one (w i))) ∙ at (4 * i) 0 (omega arith) (omega arith) in
+    let d1 = at (suc (4 * i)) 1 (omega arith) (omega arith) in
+    let d2 = at (suc (suc (4 * i))) 2 (omega arith) (omega arith) in
+    let d3 = at (suc (suc (suc (4 * i)))) 3 (omega arith) (omega arith) in
+    (λ k. tab f (4 * i) ++ (d0 k ∷ d1 k ∷ d2 k ∷ d3 k ∷ []))
+    ∙ sym (after_four (tab f (4 * i)) _ _ _ _)
+    ∙ ap (tab f) s
 
 module _ (w : ℕ → ℕ) (xs : List ℕ) where
   pub bytes-none : xs ≡ front (bytes_by w 0) xs 0
@@ -66,36 +102,14 @@ module _ (w : ℕ → ℕ) (xs : List ℕ) where
   unfolding bytes_by
   bytes-all b n e l = tab-all _ 0 xs b (4 * n) e l ∙ ap (tab _) l
 
-  module _ (b : List ℕ) (i v : ℕ) (e : b ≡ front (bytes_by w i) xs (4 * i)) (h : 4 * i + 4 ≤ length xs) (is : v ≡ w i) where
-    digit : (j : ℕ) → j < 4 → byte_of v j ≡ byte_of (w ((4 * i + j) / 4)) ((4 * i + j) % 4)
-    digit j l =
-        let q : i ≡ (4 * i + j) / 4 = omega arith in
-        let r : j ≡ (4 * i + j) % 4 = omega arith in
-        ap (λ z. byte_of z j) (is ∙ ap w q) ∙ ap (byte_of (w ((4 * i + j) / 4))) r
-
-    pub bytes-more : (d : List ℕ)
-        → d ≡ set (set (set (set b (4 * i) (byte_of v 0)) (4 * i + 1) (byte_of v 1)) (4 * i + 2) (byte_of v 2)) (4 * i + 3) (byte_of v 3)
-        → d ≡ front (bytes_by w (i + 1)) xs (4 * (i + 1))
-    unfolding bytes_by
-    bytes-more d is_set =
-        let f : ℕ → ℕ = λ (q : ℕ). byte_of (w (q / 4)) (q % 4) in
-        let z : 4 * i + 0 ≡ 4 * i = omega arith in
-        let p0 = tab-more f 0 xs b (4 * i) e (byte_of v 0) (digit 0 (omega arith) ∙ ap f z) (omega arith) in
-        let p1 = tab-more f 0 xs _ (4 * i + 1) p0 (byte_of v 1) (digit 1 (omega arith)) (omega arith) in
-        let a2 : 4 * i + 1 + 1 ≡ 4 * i + 2 = omega arith in
-        let p2 = tab-more f 0 xs _ (4 * i + 2) (p1 ∙ ap (λ n. front (tab f n) xs n) a2) (byte_of v 2) (digit 2 (omega arith)) (omega arith) in
-        let a3 : 4 * i + 2 + 1 ≡ 4 * i + 3 = omega arith in
-        let p3 = tab-more f 0 xs _ (4 * i + 3) (p2 ∙ ap (λ n. front (tab f n) xs n) a3) (byte_of v 3) (digit 3 (omega arith)) (omega arith) in
-        let a4 : 4 * i + 3 + 1 ≡ 4 * (i + 1) = omega arith in
-        is_set ∙ p3 ∙ ap (λ n. front (tab f n) xs n) a4
-
--- a word's digits to the base 256
-pub put-word_law : (b : List ℕ) (k w : ℕ)
-    → set (set (set (set b k (w % 256)) (k + 1) (w / 256 % 256)) (k + 2) (w / 65536 % 256)) (k + 3) (w / 16777216 % 256)
-    ≡ set (set (set (set b k (byte_of w 0)) (k + 1) (byte_of w 1)) (k + 2) (byte_of w 2)) (k + 3) (byte_of w 3)
-unfolding byte_of
-put-word_law b k w =
-    ap (λ z. set (set (set (set b k (z % 256)) (k + 1) (w / 256 % 256)) (k + 2) (w / 65536 % 256)) (k + 3) (w / 16777216 % 256)) (sym (div-one w))
+  -- one word more
+  pub bytes_more : (b y : List ℕ) (i v n : ℕ) → b ≡ front (bytes_by w i) xs (4 * i) → y ≡ to_le_bytes w32 v → v ≡ w i → n ≡ 4
+      → put (4 * i) n y b ≡ front (bytes_by w (i + 1)) xs (4 * (i + 1))
+  bytes_more b y i v n e ye is four =
+      let s : 4 * i + 4 ≡ 4 * (i + 1) = omega arith in
+      let z : put (4 * i) n y b ≡ put (4 * i) 4 (to_le_bytes w32 (w i)) (front (bytes_by w i) xs (4 * i)) = λ j. put (4 * i) (four j) ((ye ∙ ap (to_le_bytes w32) is) j) (e j) in
+      z ∙ put_next (4 * i) 4 (bytes_by w i) _ xs (length-bytes w i)
+      ∙ ap₂ (λ u k. front u xs k) (bytes_by-more w i) s
 
 -- a part that came back, by equal ends
 pub part-back : (at n m : ℕ) (b y z : List ℕ) → n ≡ m → y ≡ z → put at n y b ≡ put at m z b

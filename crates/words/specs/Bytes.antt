@@ -1,8 +1,10 @@
 -- 32-bit words and floats as bytes, the lowest first.
-use Rattle.std.specs.Prelude.{Bool, cond, List, ℕ, ◌+◌, ◌*◌, ◌/◌, ◌%◌, ◌^◌, length, get_or, leb, Float}
+use Rattle.std.specs.Prelude.{◌≡◌, refl, Bool, cond, map, List, ℕ, ◌+◌, ◌*◌, ◌/◌, ◌%◌, ◌^◌, length, get_or, leb, Float}
 use Rattle.std.specs.Float.{nan, binary32}
 use Rattle.std.specs.Float.Ieee.{of_bits, to_bits}
-use Rattle.loops.specs.Front.{tab}
+use Rattle.std.proofs.Common.{◌<◌, ap, ◌∙◌, arith}
+use Rattle.std.proofs.lemmas.List.{get_or-map, length-map, map-id}
+use Rattle.loops.specs.Front.{tab, tab-same}
 
 -- n whole words from the one numbered i on
 unfoldable pub holds : List ℕ → ℕ → ℕ → Bool
@@ -16,6 +18,14 @@ word_at b i =
 -- the n floats from the word numbered i on; every NaN's word is NaN
 unfoldable pub floats_at : List ℕ → ℕ → ℕ → List Float
 floats_at b i n = tab (λ (k : ℕ). of_bits binary32 (word_at b (i + k))) n
+
+-- what n words hold from the one numbered i on, the value of each by f
+unfoldable pub values_at : {A : Type 0} → (ℕ → A) → List ℕ → ℕ → ℕ → List A
+values_at f b i n = tab (λ (k : ℕ). f (word_at b (i + k))) n
+
+pub floats_are_values : (b : List ℕ) (i n : ℕ) → values_at (of_bits binary32) b i n ≡ floats_at b i n
+unfolding values_at floats_at
+floats_are_values b i n = refl
 
 -- byte j of a word
 unfoldable pub byte_of : ℕ → ℕ → ℕ
@@ -31,3 +41,18 @@ words_bytes ws = bytes_by (λ (i : ℕ). get_or ws i 0) (length ws)
 -- a NaN leaves as 7FC00000
 abbrev pub floats_bytes : List Float → List ℕ
 floats_bytes xs = bytes_by (λ (i : ℕ). to_bits binary32 (get_or xs i nan)) (length xs)
+
+-- the bytes of values, the word of each by f
+abbrev pub values_bytes : {A : Type 0} → (A → ℕ) → List A → List ℕ
+values_bytes f xs = words_bytes (map f xs)
+
+pub words_are_values : (ws : List ℕ) → values_bytes (λ (w : ℕ). w) ws ≡ words_bytes ws
+words_are_values ws = ap words_bytes (map-id ws)
+
+pub float-bytes_are_values : (xs : List Float) → values_bytes (to_bits binary32) xs ≡ floats_bytes xs
+unfolding bytes_by
+float-bytes_are_values xs =
+    let w : ℕ → ℕ = λ (i : ℕ). get_or (map (to_bits binary32) xs) i 0 in
+    let l : length (map (to_bits binary32) xs) ≡ length xs = length-map xs (to_bits binary32) in
+    ap (bytes_by w) l
+    ∙ tab-same _ _ (4 * length xs) (λ q h. let k : q / 4 < length xs = omega arith in ap (λ z. byte_of z (q % 4)) (get_or-map (to_bits binary32) xs (q / 4) nan 0 k))

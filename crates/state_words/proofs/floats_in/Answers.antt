@@ -1,24 +1,23 @@
--- `state_words::floats_in` meets its contract: one float after the other.
-use Prim.Native.Nat.{◌-◌}
-use native.Mathlib.Omega.{arith}
-use borrow.Author.Rules.{rules}
-use lib.ListN.{length-set}
-use lib.Ieee.{nan}
-use Rattle.loops.specs.Front.{tab-none, tab-more, tab-all}
+-- `floats_in` meets its contract: one float after the other.
+use Rattle.std.proofs.Common.{arith, ap, ◌∙◌}
+use Rattle.std.proofs.lemmas.List.{length-replicate}
+use lib.Ieee.{nan, binary32, of_bits}
+use Rattle.loops.specs.Front.{tab, tab-none, tab-more, tab-all}
 use Rattle.state_words.specs.Words.{floats_by}
 use Rattle.state_words.proofs.floats_in.Goals as goal
 
 pub loop-k-init : goal.loop-k-init
-loop-k-init c = (search rules, search rules, search rules, search rules, tab-none _ _)
+loop-k-init g c = tab-none _ _
 
 pub loop-k-preserved : goal.loop-k-preserved
-loop-k-preserved c =
+loop-k-preserved g c =
     let h = c.loop-k in
-    (search rules, simp length-set (omega arith), search rules, h.invariant.3, tab-more _ nan _ _ _ h.invariant.4 _ c.f32_from_word.ensures (omega arith))
-
-pub shape_of-out : goal.shape_of-out
-shape_of-out c = omega arith
+    let s = length-replicate g.row.N (of_bits binary32 0) in
+    tab-more _ nan _ _ _ h.invariant _ c.from_word.ensures (omega arith)
 
 pub returns : goal.returns
 unfolding floats_by
-returns c = let h = c.loop-k in tab-all _ nan _ _ h.k h.invariant.4 (omega arith)
+returns g c =
+    let h = c.loop-k in
+    let s = length-replicate g.row.N (of_bits binary32 0) in
+    tab-all _ nan _ _ h.k h.invariant (omega arith) ∙ ap (tab _) s
