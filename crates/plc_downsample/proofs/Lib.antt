@@ -1,2 +1,2 @@
--- laws that several proofs cite
-mod Steps
+-- laws that the callers cite too
+pub mod Steps

@@ -2,26 +2,18 @@
 
 #![tactic(auto)]
 
-ghost use Rattle.std.specs.Prelude.{◌≡◌, ◌<◌, length};
-ghost use Rattle.reply.specs.Reply.{reply, reply_if};
-ghost use Rattle.plc_downsample.specs.Downsample.{smoothed_at, smoothed, smoothed_pair};
+ghost use Rattle.std.specs.Prelude.{◌≡◌, ℕ, ◌<◌, length, get_or, MatchOption};
+ghost use Rattle.std.specs.Float.{nan};
+ghost use Rattle.reply.specs.Reply.{replied, reply_if};
+ghost use Rattle.plc_downsample.specs.Downsample.{smoothed_at};
 ghost use Rattle.plc_downsample.specs.Downsample.{downsample_takes, pitch_downsample, downsample_pair_takes, pitch_downsample_pair};
 
+use history::{HALF, SAMPLES};
 use plc_whiten::whiten;
-
-// The samples of a channel's history.
-const SAMPLES: usize = 2048;
-
-// The samples at half rate.
-const HALF: usize = 1024;
-
-// Whether the samples were downsampled.
-#[derive(Clone, Copy)]
-pub struct Downsampled {
-    pub taken: bool,
-}
+use reply::Refused;
 
 // Sample i at half rate: half of sample 2 i and a quarter of each neighbour.
+#[tactic(auto, unfolding(crate::specs::Downsample::smoothed_at))]
 fn smooth_at(x: &[f32], i: usize) -> f32
     requires { (length x.now ≡ 2048) × (i < 1024) }
     ensures { result ≡ smoothed_at x.now i }
@@ -32,58 +24,30 @@ fn smooth_at(x: &[f32], i: usize) -> f32
     0.5 * (0.5 * (x[2 * i - 1] + x[2 * i + 1]) + x[2 * i])
 }
 
-// One channel at half rate.
-fn smooth(x: &[f32], x_lp: &mut [f32])
-    requires { (length x.now ≡ 2048) × (length x_lp.old ≡ 1024) }
-    ensures { x_lp.new ≡ smoothed x.now }
+// Each sample at half rate, as `at` gives it.
+fn fill_by<F: Fn(usize) -> f32>(x_lp: &mut [f32], at: F)
+    requires { (i : ℕ) → i < length x_lp.old → F.pre at i }
+    ensures { (i : ℕ) → i < length x_lp.old → F.post at i (get_or x_lp.new i nan) }
 {
-    for i in 0..HALF {
-        x_lp[i] = smooth_at(x, i);
+    for (i, v) in x_lp.iter_mut().enumerate() {
+        *v = at(i);
     }
 }
 
-// Two channels at half rate, summed.
-fn smooth_pair(x0: &[f32], x1: &[f32], x_lp: &mut [f32])
-    requires { (length x0.now ≡ 2048) × (length x1.now ≡ 2048) × (length x_lp.old ≡ 1024) }
-    ensures { x_lp.new ≡ smoothed_pair x0.now x1.now }
+// x at half rate, with the second channel added where there is one. Refused, with nothing changed, unless each channel has 2,048 samples and x_lp 1,024.
+pub fn pitch_downsample(x: &[f32], second: Option<&[f32]>, x_lp: &mut [f32]) -> Result<(), Refused>
+    ensures { MatchOption second.entry
+        (replied result x_lp.new ≡ reply_if (downsample_takes (length x.now) (length x_lp.old)) (pitch_downsample x.now) x_lp.old)
+        (λ y. replied result x_lp.new
+        ≡ reply_if (downsample_pair_takes (length x.now) (length y.now) (length x_lp.old)) (pitch_downsample_pair x.now y.now) x_lp.old) }
 {
-    for i in 0..HALF {
-        x_lp[i] = smooth_at(x0, i) + smooth_at(x1, i);
+    if x.len() != SAMPLES || x_lp.len() != HALF {
+        return Err(Refused);
     }
-}
-
-// Refused, with nothing changed, unless x has 2,048 samples and x_lp 1,024.
-pub fn pitch_downsample(x: &[f32], x_lp: &mut [f32]) -> Downsampled
-    ensures { reply result.taken x_lp.new
-        ≡ reply_if (downsample_takes (length x.now) (length x_lp.old)) (pitch_downsample x.now) x_lp.old }
-{
-    if x.len() != SAMPLES {
-        return Downsampled { taken: false };
+    match second {
+        None => fill_by(x_lp, |i| smooth_at(x, i)),
+        Some(y) if y.len() == SAMPLES => fill_by(x_lp, |i| smooth_at(x, i) + smooth_at(y, i)),
+        Some(_) => return Err(Refused),
     }
-    if x_lp.len() != HALF {
-        return Downsampled { taken: false };
-    }
-    smooth(x, x_lp);
-    whiten(x_lp);
-    Downsampled { taken: true }
-}
-
-// The same of two channels, summed.
-pub fn pitch_downsample_pair(x0: &[f32], x1: &[f32], x_lp: &mut [f32]) -> Downsampled
-    ensures { reply result.taken x_lp.new
-        ≡ reply_if (downsample_pair_takes (length x0.now) (length x1.now) (length x_lp.old))
-        (pitch_downsample_pair x0.now x1.now) x_lp.old }
-{
-    if x0.len() != SAMPLES {
-        return Downsampled { taken: false };
-    }
-    if x1.len() != SAMPLES {
-        return Downsampled { taken: false };
-    }
-    if x_lp.len() != HALF {
-        return Downsampled { taken: false };
-    }
-    smooth_pair(x0, x1, x_lp);
-    whiten(x_lp);
-    Downsampled { taken: true }
+    whiten(x_lp)
 }
