@@ -1,26 +1,33 @@
-use mathlib.Core.Path.{◌≡◌, refl}
-use lib.ListN.{length}
+use mathlib.Core.Logic.{inl, inr}
+use Rattle.std.proofs.Common.{◌≡◌, refl, ◌∙◌, false, true, length, rules}
 use lib.Dec.{eqb}
-use borrow.Author.Rules.{rules}
-use borrow.Author.Tests.{eq-eqb, ne_eqb}
-use Rattle.loops.specs.Logic.{and_both, and_first, and_second}
-use Rattle.reply.specs.Reply.{reply-yes, reply-no}
+use borrow.Author.Tests.{ne_eqb, le-leb}
+use Rattle.loops.specs.Logic.{and_first, and_second}
+use Rattle.reply.specs.Reply.{reply-no, reply-taken}
 use Rattle.history.specs.History.{half}
-use Rattle.pitch_fit.specs.Fit.{order, fit_takes}
+use Rattle.pitch_fit.specs.Fit.{fit_takes}
+use Rattle.pitch_fit.proofs.Laws.{fit_is}
 use Rattle.pitch_fit.proofs.pitch_fit.Goals as goal
 
 pub returns-then-new-ne-HALF : goal.returns-then-new-ne-HALF
 unfolding fit_takes
-returns-then-new-ne-HALF c = reply-no _ _ _ (and_first (eqb (length c.args.new.now) half) _ (ne_eqb _ _ c.if-new-ne-HALF.true)) refl
+returns-then-new-ne-HALF c =
+    let n = eqb (length c.args.new.now) half in
+    reply-no _ _ _
+    (elim c.then-new-ne-HALF.either [ inl h ↦ and_first n _ (ne_eqb _ _ h) | inr h ↦ and_second n _ (ne_eqb _ _ h.1) ])
+    refl
 
-pub returns-then-lpc-ne-ORDER : goal.returns-then-lpc-ne-ORDER
-unfolding fit_takes
-returns-then-lpc-ne-ORDER c = reply-no _ _ _ (and_second (eqb (length c.args.new.now) half) _ (ne_eqb _ _ c.if-lpc-ne-ORDER.true)) refl
+pub returns-in_err-lag_window : goal.returns-in_err-lag_window
+returns-in_err-lag_window c =
+    let no : false ≡ true = reply-taken _ _ _ c.in_err-lag_window.ensures ∙ le-leb _ 65536 (search rules) in
+    cc
 
 pub returns : goal.returns
-unfolding fit_takes
 returns c =
     let a = c.args in
-    let p : length a.new.now ≡ half = search rules in
-    let q : length a.lpc.now ≡ order = search rules in
-    reply-yes _ _ _ (and_both (eqb (length a.new.now) half) _ (eq-eqb _ _ p) (eq-eqb _ _ q)) c.fit.ensures
+    let w = c.window in
+    let ac = c.celt_autocorr_windowed-ac in
+    let b = c.lag_window in
+    fit_is a.new.now _ w.result ac.result b.new.ac a.lpc.now _ _ _ (search rules)
+    (rw c.unwrap.ensures at c.try_into.ensures.1).same
+    w.ensures ac.ensures b.ensures c.celt_lpc.ensures (search rules)
