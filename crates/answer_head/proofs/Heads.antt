@@ -6,76 +6,70 @@ use Prim.Native.Nat.{ℕ, ◌+◌, ◌*◌, ◌≤◌, ◌<◌}
 use native.Mathlib.Omega.{arith}
 use lib.ListN.{length, get_or, take, length-append}
 use lib.Dec.{leb, eqb}
-use lib.Ieee.{Float}
+use lib.Ieee.{Float, binary32, to_bits}
+use lib.Seq.{take-length}
 use borrow.Author.Tests.{eq-eqb, ne_eqb, le-leb, lt-leb}
 use Rattle.loops.specs.Front.{front}
 use Rattle.loops.specs.Logic.{and_both, and_first, and_second, cond_either}
 use Rattle.loops.specs.Part.{put, put_front, put_next}
-use Rattle.loops.specs.Pick.{pick_true, pick-false}
-use Rattle.words.specs.Bytes.{words_bytes, floats_bytes}
+use Rattle.loops.specs.Pick.{pick_true}
+use Rattle.words.specs.Bytes.{words_bytes, floats_bytes, values_bytes, float-bytes_are_values}
 use Rattle.words.proofs.Laws.{length-bytes}
 use Rattle.answer_head.specs.Head.{samples_most, report_length, head_most, cut_of, Headed, headed, headed_by, head_fits, head_written, answer_tail}
 
 -- three words, and then the samples
-pub head-parts : (a b c n : ℕ) (xs : List Float) (h y z : List ℕ) → length xs ≡ n → y ≡ put 0 12 (words_bytes (a ∷ b ∷ c ∷ [])) h
-    → z ≡ put 12 (4 * length xs) (floats_bytes xs) y → headed (12 + 4 * n) z ≡ headed_by (words_bytes (a ∷ b ∷ c ∷ []) ++ floats_bytes xs) h
-head-parts a b c n xs h y z l p q =
+head-parts : (a b c : ℕ) (xs : List Float) (h y z : List ℕ) → y ≡ put 0 12 (words_bytes (a ∷ b ∷ c ∷ [])) h
+    → z ≡ put 12 (4 * length xs) (floats_bytes xs) y → headed (12 + 4 * length xs) z ≡ headed_by (words_bytes (a ∷ b ∷ c ∷ []) ++ floats_bytes xs) h
+head-parts a b c xs h y z p q =
     let w = words_bytes (a ∷ b ∷ c ∷ []) in
     let x = floats_bytes xs in
     let lw : length w ≡ 12 = length-bytes _ 3 in
     let lx : length x ≡ 4 * length xs = length-bytes _ _ in
-    let count : 12 + 4 * n ≡ length (w ++ x) = omega (arith, length-append w x) in
+    let count : 12 + 4 * length xs ≡ length (w ++ x) = omega (arith, length-append w x) in
     let bytes : z ≡ front (w ++ x) h (12 + 4 * length xs) =
     q ∙ ap (put 12 (4 * length xs) x) (p ∙ put_front 12 w h) ∙ put_next 12 (4 * length xs) w x h lw in
-    ap₂ headed count (bytes ∙ ap (front (w ++ x) h) (ap (λ m. 12 + 4 * m) l ∙ count))
+    ap₂ headed count (bytes ∙ ap (front (w ++ x) h) count)
 
 -- what there is room for
-module _ (samples n m : ℕ) where
-  pub head-fits : head_most ≤ m → samples ≤ samples_most → samples ≤ n → head_fits samples n m ≡ true
+module _ (n m : ℕ) where
+  pub head-fits : head_most ≤ m → n ≤ samples_most → head_fits n n m ≡ true
   unfolding head_fits
-  head-fits p q r =
-      and_both (leb head_most m) _ (le-leb head_most m p) (and_both (leb samples samples_most) _ (le-leb samples samples_most q) (le-leb samples n r))
+  head-fits p q =
+      and_both (leb head_most m) _ (le-leb head_most m p) (and_both (leb n samples_most) _ (le-leb n samples_most q) (le-leb n n (omega arith)))
 
-  pub head-no-room : m < head_most → head_fits samples n m ≡ false
+  pub head-no-room : m < head_most → head_fits n n m ≡ false
   unfolding head_fits
   head-no-room p = and_first (leb head_most m) _ (lt-leb head_most m p)
 
-  pub head_too_many : samples_most < samples → head_fits samples n m ≡ false
+  pub head_too_many : samples_most < n → head_fits n n m ≡ false
   unfolding head_fits
-  head_too_many q = and_second (leb head_most m) _ (and_first (leb samples samples_most) _ (lt-leb samples samples_most q))
+  head_too_many q = and_second (leb head_most m) _ (and_first (leb n samples_most) _ (lt-leb n samples_most q))
 
-  pub head-not-there : n < samples → head_fits samples n m ≡ false
-  unfolding head_fits
-  head-not-there r = and_second (leb head_most m) _ (and_second (leb samples samples_most) _ (lt-leb samples n r))
-
-module _ (number kind samples : ℕ) (pcm : List Float) (h : List ℕ) where
-  abbrev bytes : List ℕ
-  bytes = words_bytes (number ∷ kind ∷ samples ∷ []) ++ floats_bytes (take samples pcm)
-
-  pub head-written : head_fits samples (length pcm) (length h) ≡ true → head_written number kind samples pcm h ≡ headed_by bytes h
+module _ (number kind : ℕ) (pcm : List Float) (h : List ℕ) (fits : head_fits (length pcm) (length pcm) (length h) ≡ true) where
+  -- all the samples
+  pub head-all : head_written number kind (length pcm) pcm h ≡ headed_by (words_bytes (number ∷ kind ∷ length pcm ∷ []) ++ floats_bytes pcm) h
   unfolding head_written
-  head-written e = pick_true (head_fits samples (length pcm) (length h)) (headed_by bytes h) (headed 0 h) e
+  head-all =
+      let n = length pcm in
+      pick_true (head_fits n n (length h)) (headed_by (words_bytes (number ∷ kind ∷ n ∷ []) ++ floats_bytes (take n pcm)) h) (headed 0 h) fits
+      ∙ ap (λ z. headed_by (words_bytes (number ∷ kind ∷ n ∷ []) ++ floats_bytes z) h) (take-length pcm)
 
-  pub head-stays : head_fits samples (length pcm) (length h) ≡ false → headed 0 h ≡ head_written number kind samples pcm h
-  unfolding head_written
-  head-stays e = sym (pick-false (head_fits samples (length pcm) (length h)) (headed_by bytes h) (headed 0 h) e)
+  pub head-written : (y z : List ℕ) → y ≡ put 0 12 (values_bytes (λ (x : ℕ). x) (number ∷ kind ∷ length pcm ∷ [])) h
+      → z ≡ put 12 (4 * length pcm) (values_bytes (to_bits binary32) pcm) y → headed (12 + 4 * length pcm) z ≡ head_written number kind (length pcm) pcm h
+  head-written y z p q = head-parts number kind (length pcm) pcm h y z p (q ∙ ap (λ x. put 12 (4 * length pcm) x y) (float-bytes_are_values pcm)) ∙ sym head-all
 
 -- what is left past the last whole record
-module _ (n : ℕ) (h : List ℕ) where
-  pub tail-no-room : length h < report_length → headed 0 h ≡ answer_tail n h
-  unfolding answer_tail
-  tail-no-room l = sym (pick-false (leb report_length (length h)) (headed_by (cut_of n) h) (headed 0 h) (lt-leb report_length (length h) l))
-
-  pub tail_none : report_length ≤ length h → n ≡ 0 → headed 0 h ≡ answer_tail n h
+module _ (n : ℕ) (h : List ℕ) (room : report_length ≤ length h) where
+  pub tail_none : n ≡ 0 → headed 0 h ≡ answer_tail n h
   unfolding answer_tail cut_of front
-  tail_none l e = simp (le-leb report_length (length h) l, eq-eqb n 0 e) refl
+  tail_none e = simp (le-leb report_length (length h) room, eq-eqb n 0 e) refl
 
-  pub tail-cut : report_length ≤ length h → (n ≡ 0 → ⊥) → (z : List ℕ) → z ≡ put 0 12 (words_bytes (11 ∷ 0 ∷ 0 ∷ [])) h → headed 12 z ≡ answer_tail n h
+  pub tail-cut : (n ≡ 0 → ⊥) → (z : List ℕ) → z ≡ put 0 12 (words_bytes (11 ∷ 0 ∷ 0 ∷ [])) h → headed 12 z ≡ answer_tail n h
   unfolding answer_tail cut_of
-  tail-cut l f z e =
+  tail-cut f z e =
       let w = words_bytes (11 ∷ 0 ∷ 0 ∷ []) in
       let k : length w ≡ 12 = length-bytes _ 3 in
-      simp (le-leb report_length (length h) l, ne_eqb n 0 f) (ap₂ headed (sym k) (e ∙ put_front 12 w h ∙ ap (front w h) (sym k)))
+      simp (le-leb report_length (length h) room, ne_eqb n 0 f) (ap₂ headed (sym k) (e ∙ put_front 12 w h ∙ ap (front w h) (sym k)))
 
 cut_most : (n : ℕ) → length (cut_of n) ≤ report_length
 unfolding cut_of

@@ -2,53 +2,55 @@
 
 #![tactic(auto)]
 
-ghost use Rattle.std.specs.Prelude.{◌≡◌};
-ghost use Rattle.answer_head.specs.Head.{headed, head_written, answer_tail};
+ghost use Rattle.std.specs.Prelude.{◌≡◌, length, leb};
+ghost use Rattle.reply.specs.Reply.{replied, reply_if, value_or};
+ghost use Rattle.answer_head.specs.Head.{report_length, headed, head_fits, head_written, answer_tail};
+
+use put_words::put_values_at;
+use reply::Refused;
 
 // The samples of the longest answer: two channels of 960.
 pub const SAMPLES_MOST: usize = 1_920;
 
-// The bytes of number, kind and sample count.
-const REPORT_BYTES: usize = 12;
+// The words, and the bytes, of number, kind and sample count.
+const REPORT_WORDS: usize = 3;
 
-pub const HEAD_BYTES: usize = 7_692;
+const REPORT_BYTES: usize = 4 * REPORT_WORDS;
+
+pub const HEAD_BYTES: usize = REPORT_BYTES + 4 * SAMPLES_MOST;
 
 // The number that a record cut short gets.
 const CUT_SHORT: u32 = 11;
 
-// Number, kind and sample count, and then the samples; how many bytes they are. A `head` of less than 7,692 bytes stays,
-// as it does for more than 1,920 samples or more than pcm has, and 0 is returned.
-pub fn write_head(head: &mut [u8], number: u32, kind: u32, samples: usize, pcm: &[f32]) -> usize
-    ensures { headed result head.new ≡ head_written number kind samples pcm.now head.old }
+// Number, kind and sample count, and then the samples; how many bytes they are. A `head` of less than 7,692 bytes and
+// more than 1,920 samples are refused, and `head` stays.
+pub fn write_head(head: &mut [u8], number: u32, kind: u32, pcm: &[f32]) -> Result<usize, Refused>
+    ensures { replied result (headed (value_or 0 result) head.new)
+        ≡ reply_if (head_fits (length pcm.now) (length pcm.now) (length head.old))
+        (head_written number kind (length pcm.now) pcm.now head.old)
+        (headed 0 head.old) }
 {
-    if head.len() < HEAD_BYTES {
-        return 0;
+    let samples = pcm.len();
+    if head.len() < HEAD_BYTES || samples > SAMPLES_MOST {
+        return Err(Refused);
     }
-    if samples > SAMPLES_MOST {
-        return 0;
-    }
-    if samples > pcm.len() {
-        return 0;
-    }
-    let count = samples as u32;
-    let report = [number, kind, count];
-    put_words::put_words_at(head, 0, &report);
-    put_words::put_floats_at(head, 3, &pcm[..samples]);
-    REPORT_BYTES + 4 * samples
+    put_values_at(head, 0, &[number, kind, samples as u32])?;
+    put_values_at(head, REPORT_WORDS, pcm)?;
+    Ok(REPORT_BYTES + 4 * samples)
 }
 
 // The step for what is left past the last whole record, n bytes of it: nothing for none, and else 11, 0, 0.
-// A `head` of less than 12 bytes stays.
-pub fn answer_tail(n: usize, head: &mut [u8]) -> usize
-    ensures { headed result head.new ≡ answer_tail n head.old }
+// A `head` of less than 12 bytes is refused, and stays.
+pub fn answer_tail(n: usize, head: &mut [u8]) -> Result<usize, Refused>
+    ensures { replied result (headed (value_or 0 result) head.new)
+        ≡ reply_if (leb report_length (length head.old)) (answer_tail n head.old) (headed 0 head.old) }
 {
     if head.len() < REPORT_BYTES {
-        return 0;
+        return Err(Refused);
     }
     if n == 0 {
-        return 0;
+        return Ok(0);
     }
-    let report = [CUT_SHORT, 0u32, 0u32];
-    put_words::put_words_at(head, 0, &report);
-    REPORT_BYTES
+    put_values_at(head, 0, &[CUT_SHORT, 0, 0])?;
+    Ok(REPORT_BYTES)
 }

@@ -13,7 +13,7 @@ use Rattle.std.proofs.lemmas.List.{get_or-take, get_or-drop}
 use lib.Dec.{leb}
 use borrow.Author.Tests.{le-leb, lt-leb, leb-true, leb-false}
 use Rattle.loops.specs.Part.{put, put_next}
-use Rattle.reply.specs.Reply.{reply, reply_if, reply-lent}
+use Rattle.reply.specs.Reply.{reply, reply_if, reply-lent, reply-taken}
 use Rattle.loops.specs.Pick.{pick_true, pick-false}
 use Rattle.loops.specs.Front.{tab, length-tab, front, tab-none, tab-all}
 use Rattle.words.specs.Bytes.{holds, word_at, byte_of, bytes_by}
@@ -38,6 +38,9 @@ module _ (b : List ℕ) (i : ℕ) where
   -- what is written where there is room
   pub put-held : (n : ℕ) (x : List ℕ) {t : Bool} {y : List ℕ} → reply t y ≡ reply_if (holds b i n) x b → 4 * (i + n) ≤ length b → y ≡ x
   put-held n x e l = reply-lent (holds b i n) x b e (holds-true n l)
+
+  pub put-taken : (n : ℕ) (x : List ℕ) {t : Bool} {y : List ℕ} → reply t y ≡ reply_if (holds b i n) x b → 4 * (i + n) ≤ length b → t ≡ true
+  put-taken n x e l = reply-taken (holds b i n) x b e ∙ holds-true n l
 
   pub word-past : length b < 4 * (i + 1) → word_at b i ≡ 0
   unfolding word_at

@@ -1,21 +1,27 @@
--- `answer_head::answer_tail` meets its contract: nothing for nothing, three words for a cut record.
-use native.Mathlib.Omega.{arith}
-use Rattle.words.proofs.Laws.{put-held}
-use Rattle.answer_head.proofs.Heads.{tail-no-room, tail_none, tail-cut}
+-- `answer_tail` meets its contract: nothing for nothing, three words for a cut record.
+use Rattle.std.proofs.Common.{true≢false, refl, ap, sym, ◌∙◌, arith, le-leb}
+use borrow.Author.Tests.{lt-leb}
+use Rattle.std.specs.Prelude.{is_ok}
+use Rattle.reply.specs.Reply.{reply-yes, reply-no}
+use Rattle.words.proofs.Laws.{put-held, put-taken}
+use Rattle.answer_head.proofs.Heads.{tail_none, tail-cut}
 use Rattle.answer_head.proofs.answer_tail.Goals as goal
 
 pub returns-then-head-lt-REPORT_BYTES : goal.returns-then-head-lt-REPORT_BYTES
-returns-then-head-lt-REPORT_BYTES c =
-    let a = c.args in
-    tail-no-room a.n a.head.now c.if-head-lt-REPORT_BYTES.true
+returns-then-head-lt-REPORT_BYTES c = reply-no _ _ _ (lt-leb _ _ c.if-head-lt-REPORT_BYTES.true) refl
 
 pub returns-then-n-eq0 : goal.returns-then-n-eq0
 returns-then-n-eq0 c =
-    let a = c.args in
-    tail_none a.n a.head.now c.if-head-lt-REPORT_BYTES.false c.if-n-eq0.true
+    let room = c.if-head-lt-REPORT_BYTES.false in
+    reply-yes _ _ _ (le-leb _ _ room) (tail_none c.args.n c.args.head.now room c.if-n-eq0.true)
+
+pub returns-in_err-put_values_at : goal.returns-in_err-put_values_at
+returns-in_err-put_values_at c =
+    absurd (true≢false (sym (put-taken c.args.head.now 0 3 _ c.put_values_at.ensures (omega arith)) ∙ ap is_ok c.in_err-put_values_at.was))
 
 pub returns : goal.returns
 returns c =
     let a = c.args in
     let room = c.if-head-lt-REPORT_BYTES.false in
-    tail-cut a.n a.head.now room c.if-n-eq0.false _ (put-held a.head.now 0 3 _ c.put_words_at.ensures (omega arith))
+    let written = put-held a.head.now 0 3 _ c.put_values_at.ensures (omega arith) in
+    reply-yes _ _ _ (le-leb _ _ room) (tail-cut a.n a.head.now room c.if-n-eq0.false _ written)

@@ -1,39 +1,33 @@
--- `answer_head::write_head` meets its contract: three words, and the samples behind them.
-use mathlib.Core.Path.{◌∙◌, sym}
-use native.Mathlib.Omega.{arith}
-use lib.ListN.{length, take}
-use lib.Seq.{length-take-le}
-use Rattle.words.proofs.Laws.{put-held}
-use Rattle.answer_head.proofs.Heads.{head-parts, head-fits, head-no-room, head_too_many, head-not-there, head-written, head-stays}
+-- `write_head` meets its contract: three words, and the samples behind them.
+use Rattle.std.proofs.Common.{true≢false, refl, ap, sym, ◌∙◌, length, arith}
+use Rattle.std.specs.Prelude.{is_ok}
+use Rattle.reply.specs.Reply.{reply-yes, reply-no}
+use Rattle.words.proofs.Laws.{put-held, put-taken}
+use Rattle.answer_head.proofs.Heads.{head-fits, head-no-room, head_too_many, head-written}
 use Rattle.answer_head.proofs.write_head.Goals as goal
+use Rattle.answer_head.proofs.write_head.Goals.{then-head-lt-HEAD_BYTES-via-then-head-lt-HEAD_BYTES, then-head-lt-HEAD_BYTES-via-else-head-lt-HEAD_BYTES+then-samples-gt-SAMPLES_MOST}
 
 pub returns-then-head-lt-HEAD_BYTES : goal.returns-then-head-lt-HEAD_BYTES
 returns-then-head-lt-HEAD_BYTES c =
-    let a = c.args in
-    head-stays a.number a.kind a.samples a.pcm.now a.head.now (head-no-room _ _ _ c.if-head-lt-HEAD_BYTES.true)
+    elim c.then-head-lt-HEAD_BYTES.branch [
+      | then-head-lt-HEAD_BYTES-via-then-head-lt-HEAD_BYTES w ↦ reply-no _ _ _ (head-no-room _ _ w.if-head-lt-HEAD_BYTES.true) refl
+      | then-head-lt-HEAD_BYTES-via-else-head-lt-HEAD_BYTES+then-samples-gt-SAMPLES_MOST w ↦ reply-no _ _ _ (head_too_many _ _ w.if-samples-gt-SAMPLES_MOST.true) refl
+    ]
 
-pub returns-then-samples-gt-SAMPLES_MOST : goal.returns-then-samples-gt-SAMPLES_MOST
-returns-then-samples-gt-SAMPLES_MOST c =
-    let a = c.args in
-    head-stays a.number a.kind a.samples a.pcm.now a.head.now (head_too_many _ _ _ c.if-samples-gt-SAMPLES_MOST.true)
+pub returns-in_err-put_values_at : goal.returns-in_err-put_values_at
+returns-in_err-put_values_at c =
+    absurd (true≢false (sym (put-taken c.args.head.now 0 3 _ c.put_values_at.ensures (omega arith)) ∙ ap is_ok c.in_err-put_values_at.was))
 
-pub returns-then-samples-pcm : goal.returns-then-samples-pcm
-returns-then-samples-pcm c =
-    let a = c.args in
-    head-stays a.number a.kind a.samples a.pcm.now a.head.now (head-not-there _ _ _ c.if-samples-pcm.true)
-
-pub slice_bounds-put_floats_at-end : goal.slice_bounds-put_floats_at-end
-slice_bounds-put_floats_at-end c =
-    let a = c.args in
-    sym (length-take-le a.samples a.pcm.now c.if-samples-pcm.false)
+pub returns-in_err-put_values_at-2 : goal.returns-in_err-put_values_at-2
+returns-in_err-put_values_at-2 c =
+    let n = length c.args.pcm.now in
+    absurd (true≢false (sym (put-taken c.put_values_at.new.b 3 n _ c.put_values_at-2.ensures (omega (arith, c.put_values_at.auto.b))) ∙ ap is_ok c.in_err-put_values_at-2.was))
 
 pub returns : goal.returns
 returns c =
-    let words = c.put_words_at in
     let a = c.args in
-    let xs = take a.samples a.pcm.now in
-    let l = length-take-le a.samples a.pcm.now c.if-samples-pcm.false in
-    let first = put-held a.head.now 0 3 _ words.ensures (omega (arith, c.if-head-lt-HEAD_BYTES.false)) in
-    let second = put-held _ 3 (length xs) _ c.put_floats_at.ensures (omega (arith, c.if-samples-gt-SAMPLES_MOST.false, c.if-head-lt-HEAD_BYTES.false, words.auto.b)) in
-    head-parts a.number a.kind a.samples a.samples xs a.head.now _ _ l first second
-    ∙ sym (head-written a.number a.kind a.samples a.pcm.now a.head.now (head-fits _ _ _ c.if-head-lt-HEAD_BYTES.false c.if-samples-gt-SAMPLES_MOST.false c.if-samples-pcm.false))
+    let n = length a.pcm.now in
+    let fits = head-fits n _ c.if-head-lt-HEAD_BYTES.false c.if-samples-gt-SAMPLES_MOST.false in
+    let first = put-held a.head.now 0 3 _ c.put_values_at.ensures (omega arith) in
+    let second = put-held _ 3 n _ c.put_values_at-2.ensures (omega (arith, c.put_values_at.auto.b)) in
+    reply-yes _ _ _ fits (head-written a.number a.kind a.pcm.now a.head.now fits _ _ first second)
