@@ -5,6 +5,7 @@ use borrow.Author.Tests.{ne_eqb, le-leb}
 use Rattle.loops.specs.Logic.{and_first, and_second}
 use Rattle.reply.specs.Reply.{reply-no, reply-taken}
 use Rattle.history.specs.History.{half}
+use Rattle.plc_lag_window.specs.LagWindow.{lag_window}
 use Rattle.pitch_fit.specs.Fit.{fit_takes}
 use Rattle.pitch_fit.proofs.Laws.{fit_is}
 use Rattle.pitch_fit.proofs.pitch_fit.Goals as goal
@@ -19,7 +20,8 @@ returns-then-new-ne-HALF c =
 
 pub returns-in_err-lag_window : goal.returns-in_err-lag_window
 returns-in_err-lag_window c =
-    let no : false ≡ true = reply-taken _ _ _ c.in_err-lag_window.ensures ∙ le-leb _ 65536 (search rules) in
+    let ac = c.celt_autocorr_windowed-ac.result in
+    let no : false ≡ true = reply-taken _ (lag_window ac) ac c.in_err-lag_window.ensures ∙ le-leb (length ac) 65536 (search rules) in
     cc
 
 pub returns : goal.returns
