@@ -15,7 +15,7 @@ use reply::Refused;
 const LONGEST: usize = 1024;
 
 // The samples of buf behind their memory.
-fn padded(buf: &[f32], mem: &[f32]) -> [f32; 1048]
+fn padded(buf: &[f32], mem: &[f32]) -> [f32; ORDER + LONGEST]
     requires { (length buf.now ≤ 1024) × (length mem.now ≤ 24) }
     ensures { Remembers result mem.now × Holds result buf.now (length buf.now) }
 {

@@ -13,7 +13,11 @@ use reply::Refused;
 pub const LONGEST: usize = 1200;
 
 // Filters buf; mem has the outputs before its start, the most recent first. More than 1,200 samples are refused, and buf stays.
-pub fn celt_iir_inplace(buf: &mut [f32], den: &[f32; 24], mem: &[f32; 24]) -> Result<(), Refused>
+pub fn celt_iir_inplace(
+    buf: &mut [f32],
+    den: &[f32; ORDER],
+    mem: &[f32; ORDER],
+) -> Result<(), Refused>
     ensures { replied result buf.new
         ≡ reply_if (iir_takes (length buf.old)) (celt_iir den.now mem.now buf.old) buf.old }
 {

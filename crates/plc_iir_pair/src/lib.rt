@@ -15,10 +15,10 @@ use reply::Refused;
 pub fn celt_iir_pair(
     a: &mut [f32],
     b: &mut [f32],
-    den_a: &[f32; 24],
-    den_b: &[f32; 24],
-    mem_a: &[f32; 24],
-    mem_b: &[f32; 24],
+    den_a: &[f32; ORDER],
+    den_b: &[f32; ORDER],
+    mem_a: &[f32; ORDER],
+    mem_b: &[f32; ORDER],
 ) -> Result<(), Refused>
     ensures { replied result (channels a.new b.new)
         ≡ reply_if (iir_pair_takes (length a.old) (length b.old))

@@ -29,7 +29,7 @@ pub fn remember(pad: &mut [f32], mem: &[f32]) -> Result<(), Refused>
 
 // x less the taps on the 24 values before its place, the last of which is the most recent, in order.
 #[inline(always)]
-pub fn less_taps(den: &[f32; 24], past: &[f32; 24], x: f32) -> f32
+pub fn less_taps(den: &[f32; ORDER], past: &[f32; ORDER], x: f32) -> f32
     ensures { result ≡ taps_taken den.now past.now 0 x order }
 {
     let mut y = x;

@@ -30,7 +30,7 @@ fn damp(lpc: &mut [f32])
 }
 
 // The damped predictor of order 4.
-fn whitening(lp: &[f32; 1024]) -> [f32; 4]
+fn whitening(lp: &[f32; SAMPLES]) -> [f32; 4]
     ensures { result ≡ whitener lp.now }
 {
     let mut ac = celt_autocorr(lp);

@@ -5,8 +5,11 @@
 ghost use Rattle.std.specs.Prelude.{◌≡◌};
 ghost use Rattle.plc_window.specs.Window.{windowed_ends};
 
+// The samples that are correlated.
+pub const SAMPLES: usize = 1024;
+
 // The samples with the window on their first and last 120.
-pub fn windowed_ends(x: &[f32; 1024], window: &[f32; 120]) -> [f32; 1024]
+pub fn windowed_ends(x: &[f32; SAMPLES], window: &[f32; 120]) -> [f32; SAMPLES]
     ensures { result ≡ windowed_ends x.now window.now }
 {
     let mut xx = *x;
