@@ -1,3 +1,3 @@
 -- laws that several proofs cite
-mod Near
+mod Finer
 mod Steps

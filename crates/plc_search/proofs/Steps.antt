@@ -2,7 +2,7 @@
 use mathlib.Core.Path.{◌≡◌, ap, ◌∙◌, sym}
 use mathlib.Core.Bool.{Bool, true}
 use mathlib.Core.List.{List}
-use Prim.Native.Nat.{ℕ, ◌-◌, ◌≤◌, ◌<◌}
+use Prim.Native.Nat.{ℕ, ◌≤◌, ◌<◌}
 use native.Mathlib.Omega.{arith}
 use lib.Ieee.{Float, nan}
 use lib.ListN.{length, take, drop}
@@ -16,7 +16,8 @@ use Rattle.plc_correlate.specs.Correlation.{correlation, correlate_takes}
 use Rattle.plc_search.specs.Search.{every_second, coarse, coarse_best, fine_at, fine, fine_best, refined, pitch_search}
 use Rattle.plc_search.specs.Offset.{Within, best-within}
 use Rattle.plc_best.proofs.Pairs.{found}
-use Rattle.plc_correlate.proofs.Rows.{to_end, correlated, taken}
+use Rattle.plc_search.proofs.Finer.{rest}
+use Rattle.plc_correlate.proofs.Rows.{correlated, taken}
 
 take-length-tab : {A : Type 0} (f : ℕ → A) (m n : ℕ) → m ≤ n → length (take m (tab f n)) ≡ m
 take-length-tab f m n h = length-take-le m (tab f n) (omega (arith, length-tab f n))
@@ -36,11 +37,11 @@ length-second x n = length-tab _ n
 pub first_count : {A : Type 0} (f : ℕ → A) (r : List A) (m n : ℕ) → m ≤ n → r ≡ tab f n → length (take m r) ≡ m
 first_count f r m n h e = ap (λ z. length (take m z)) e ∙ take-length-tab f m n h
 
-coarse-done : (y x4 y4 xc : List Float) → x4 ≡ every_second (take (length y - 360) (drop 360 y)) 332 → y4 ≡ every_second y 487
+coarse-done : (y x4 y4 xc : List Float) → length y ≡ 1024 → x4 ≡ every_second (take 664 (drop 360 y)) 332 → y4 ≡ every_second y 487
     → xc ≡ tab (correlation x4 y4 (length x4)) 156 → find_best_pitch (take 155 xc) y4 332 155 ≡ coarse_best y
 unfolding coarse_best coarse
-coarse-done y x4 y4 xc e1 e2 e3 =
-    let x : x4 ≡ every_second (drop 360 y) 332 = e1 ∙ ap (λ z. every_second z 332) (to_end 360 y) in
+coarse-done y x4 y4 xc h e1 e2 e3 =
+    let x : x4 ≡ every_second (drop 360 y) 332 = e1 ∙ ap (λ z. every_second z 332) (rest y h 360) in
     let l : length x4 ≡ 332 = ap length x ∙ length-second (drop 360 y) 332 in
     let c : xc ≡ tab (correlation (every_second (drop 360 y) 332) (every_second y 487) 332) 156 =
     e3 ∙ ap (λ z. tab (correlation x4 y4 z) 156) l ∙ ap (λ z. tab (correlation z y4 332) 156) x
@@ -66,12 +67,12 @@ coarse-taken {x4 = x4} {y4 = y4} x y w ex ey l e =
     taken x4 y4 w e (omega arith)
 
 -- the two best of them, which are never refused here
-pub coarse-pair : {r : Option (ℕ × ℕ)} (y x4 y4 xc : List Float) → x4 ≡ every_second (take (length y - 360) (drop 360 y)) 332 → y4 ≡ every_second y 487
+pub coarse-pair : {r : Option (ℕ × ℕ)} (y x4 y4 xc : List Float) → length y ≡ 1024 → x4 ≡ every_second (take 664 (drop 360 y)) 332 → y4 ≡ every_second y 487
     → xc ≡ tab (correlation x4 y4 (length x4)) 156 → r ≡ best_pitches (take 155 xc) y4 332 (length (take 155 xc)) → r ≡ Some ((coarse_best y).first.at, (coarse_best y).second.at)
-coarse-pair y x4 y4 xc e1 e2 e3 e4 =
+coarse-pair y x4 y4 xc h e1 e2 e3 e4 =
     let m : length y4 ≡ 487 = ap length e2 ∙ length-second y 487 in
     found (take 155 xc) y4 332 155 (first_count (correlation x4 y4 (length x4)) xc 155 156 (omega arith) e3) (omega arith) e4
-    ∙ ap (λ z. Some (z.first.at, z.second.at)) (coarse-done y x4 y4 xc e1 e2 e3)
+    ∙ ap (λ z. Some (z.first.at, z.second.at)) (coarse-done y x4 y4 xc h e1 e2 e3)
 
 coarse-within : (y : List Float) → Within 155 (coarse_best y)
 unfolding coarse_best

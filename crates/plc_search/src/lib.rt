@@ -5,7 +5,7 @@
 ghost use Rattle.std.specs.Prelude.{◌≡◌, ◌+◌, ◌*◌, ◌-◌, ◌≤◌, ◌<◌, length};
 ghost use Rattle.loops.specs.Front.{tab};
 ghost use Rattle.plc_search.specs.Search.{every_second, fine_at, coarse_best, interpolated, refined, pitch_search};
-ghost use Rattle.plc_search.specs.Rows.{near_row, near_or};
+ghost use Rattle.plc_search.specs.Rows.{near_row, near_at};
 
 use plc_best::find_best_pitch;
 use plc_correlate::correlate;
@@ -53,46 +53,55 @@ fn first_near(b: usize) -> usize
 }
 
 // Five correlations at half rate, which hold all those within 2 of twice b.
-fn near_row(y: &[f32], b: usize) -> [f32; 5]
-    requires { (length y.now ≡ 1024) × (b ≤ 154) }
-    ensures { result ≡ near_row y.now b }
-{
-    let lo = first_near(b);
-    let mut row = [0.0f32; 5];
-    correlate(&y[LATER..], &y[lo..], &mut row).unwrap();
-    row
+#[derive(Clone, Copy)]
+struct Near {
+    b: usize,
+    row: [f32; 5],
+    ghost coarse: { b ≤ 154 },
 }
 
-// What stands in b's row for place i, and v where i is not near.
-#[tactic(auto, unfolding(crate::specs::Rows::near_or, crate::specs::Search::near))]
-fn near_or(row: &[f32; 5], b: usize, i: usize, v: f32) -> f32
-    requires { (b ≤ 154) × (i < 310) }
-    ensures { result ≡ near_or row.now b i v }
-{
-    if 2 * b <= i + 2 && i <= 2 * b + 2 {
-        row[i - first_near(b)]
-    } else {
-        v
+impl Near {
+    fn around(y: &[f32; 1024], b: usize) -> Near
+        requires { b ≤ 154 }
+        ensures place { result.b ≡ b }
+        ensures values { result.row ≡ near_row y.now b }
+    {
+        let lo = first_near(b);
+        let mut row = [0.0f32; 5];
+        correlate(&y[LATER..], &y[lo..], &mut row).unwrap();
+        Near { b, row }
+    }
+
+    // What stands there for place i, where i is near.
+    #[tactic(auto, unfolding(crate::specs::Rows::near_at, crate::specs::Search::near))]
+    fn at(&self, i: usize) -> Option<f32>
+        requires { i < 310 }
+        ensures { result ≡ near_at self.now.row self.now.b i }
+    {
+        if 2 * self.b <= i + 2 && i <= 2 * self.b + 2 {
+            Some(self.row[i - first_near(self.b)])
+        } else {
+            None
+        }
     }
 }
 
 // The finer correlations around twice b0 and twice b1; 0 elsewhere.
-fn fine_row(y: &[f32], b0: usize, b1: usize) -> [f32; PLACES]
-    requires { (length y.now ≡ 1024) × (b0 ≤ 154) × (b1 ≤ 154) }
+fn fine_row(y: &[f32; 1024], b0: usize, b1: usize) -> [f32; PLACES]
+    requires { (b0 ≤ 154) × (b1 ≤ 154) }
     ensures { result ≡ tab (fine_at y.now b0 b1) 310 }
 {
-    let row0 = near_row(y, b0);
-    let row1 = near_row(y, b1);
+    let near0 = Near::around(y, b0);
+    let near1 = Near::around(y, b1);
     let mut xcorr = [0.0f32; PLACES];
     for (i, v) in xcorr.iter_mut().enumerate() {
-        *v = near_or(&row0, b0, i, near_or(&row1, b1, i, 0.0));
+        *v = near0.at(i).or(near1.at(i)).unwrap_or(0.0);
     }
     xcorr
 }
 
 // The two best places at quarter rate.
-fn coarse_best(y: &[f32]) -> (usize, usize)
-    requires { length y.now ≡ 1024 }
+fn coarse_best(y: &[f32; 1024]) -> (usize, usize)
     ensures { result ≡ ((coarse_best y.now).first.at, (coarse_best y.now).second.at) }
 {
     let mut x4 = [0.0f32; COMPARED4];
@@ -121,7 +130,7 @@ fn interpolate(p: usize, a: f32, b: f32, c: f32) -> usize
 
 // The place at full rate.
 #[tactic(auto, unfolding(crate::specs::Search::refined))]
-fn refine(xcorr: &[f32; 310], p: usize) -> usize
+fn refine(xcorr: &[f32; PLACES], p: usize) -> usize
     requires { p < 310 }
     ensures { result ≡ refined xcorr.now p }
 {

@@ -1,6 +1,7 @@
 use Rattle.plc_search.proofs.Steps.{coarse-row, coarse-taken, coarse-pair, first_count}
 use mathlib.Core.Path.{refl, ap, ◌∙◌, sym}
 use native.Mathlib.Omega.{arith}
+use borrow.Author.Rules.{rules}
 use lib.ListN.{replicate}
 use Rattle.std.specs.Prelude.{is_some}
 use Rattle.std.proofs.lemmas.Option.{same_Some}
@@ -20,7 +21,7 @@ pub unwrap-requires-2 : goal.unwrap-requires-2
 unwrap-requires-2 c =
     let e1 = c.every_second.ensures in
     let e2 = c.every_second-2.ensures in
-    ap is_some (coarse-pair _ _ _ _ e1 e2 (coarse-row _ _ (replicate 156 zero32) e1 e2 refl c.correlate.ensures) c.find_best_pitch.ensures)
+    ap is_some (coarse-pair _ _ _ _ (search rules) e1 e2 (coarse-row _ _ (replicate 156 zero32) e1 e2 refl c.correlate.ensures) c.find_best_pitch.ensures)
 
 pub returns : goal.returns
 returns c =
@@ -28,4 +29,4 @@ returns c =
     let e2 = c.every_second-2.ensures in
     same_Some _ _
     (sym c.unwrap-2.ensures
-    ∙ coarse-pair _ _ _ _ e1 e2 (coarse-row _ _ (replicate 156 zero32) e1 e2 refl c.correlate.ensures) c.find_best_pitch.ensures)
+    ∙ coarse-pair _ _ _ _ (search rules) e1 e2 (coarse-row _ _ (replicate 156 zero32) e1 e2 refl c.correlate.ensures) c.find_best_pitch.ensures)

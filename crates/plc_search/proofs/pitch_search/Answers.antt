@@ -5,7 +5,7 @@ use Rattle.std.specs.Prelude.{is_some}
 use Rattle.plc_search.proofs.pitch_search.Goals as goal
 
 pub fine_row-xcorr-requires : goal.fine_row-xcorr-requires
-fine_row-xcorr-requires c = let h = coarse-least _ c.coarse_best-b0.ensures in (search rules, h.0, h.1)
+fine_row-xcorr-requires c = coarse-least _ c.coarse_best-b0.ensures
 
 pub unwrap-best-requires : goal.unwrap-best-requires
 unwrap-best-requires c = ap is_some (fine-pair _ _ (search rules) (search rules) c.find_best_pitch.ensures)
