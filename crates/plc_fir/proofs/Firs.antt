@@ -1,14 +1,12 @@
 -- the all-zero filter from a place on, by the taps of a padded part
 use mathlib.Core.Path.{◌≡◌, ap, ◌∙◌, sym}
-use mathlib.Core.Bool.{Bool, true, false, ◌&&◌}
+use mathlib.Core.Bool.{Bool}
 use mathlib.Core.List.{List, [], ◌++◌, append-nil}
 use Prim.Native.Nat.{ℕ, ◌+◌, ◌-◌, ◌≤◌, ◌<◌}
 use native.Mathlib.Omega.{arith}
-use lib.Dec.{leb}
 use lib.ListN.{length, get_or, take, drop, length-drop, drop_of_length-le}
 use lib.Seq.{get_or-drop, get_or-take, length-take-le, take_all, ext_get_or}
 use lib.Ieee.{Float, nan, binary32, mul}
-use borrow.Author.Tests.{eq-eqb, ne_eqb, le-leb, lt-leb}
 use Rattle.loops.specs.Front.{tab, length-tab, get_or-tab, tab-same}
 use Rattle.loops.specs.Part.{put}
 use Rattle.reply.specs.Reply.{reply, reply_if}
@@ -73,17 +71,3 @@ pub fir_all : {r : Bool} {y : List Float} (num mem x : List Float)
     → reply r y ≡ reply_if (fir_takes (length num) (length mem) (length x)) (celt_fir_from 0 num mem x) x
     → reply r y ≡ reply_if (fir_takes (length num) (length mem) (length x)) (celt_fir num mem x) x
 fir_all num mem x e = e ∙ ap (λ z. reply_if (fir_takes (length num) (length mem) (length x)) z x) (celt_fir_from-0 num mem x)
-
--- the tests of the lengths, in their order
-module _ (num mem x : ℕ) where
-  pub fir_unlike : (num ≡ mem → ⊥) → fir_takes num mem x ≡ false
-  fir_unlike h = ap (λ z. z && leb num 24 && leb x 1024) (ne_eqb num mem h)
-
-  pub fir_order : num ≡ mem → 24 < num → fir_takes num mem x ≡ false
-  fir_order e h = ap (λ z. z && leb num 24 && leb x 1024) (eq-eqb num mem e) ∙ ap (λ z. z && leb x 1024) (lt-leb num 24 h)
-
-  pub fir_long : num ≡ mem → num ≤ 24 → 1024 < x → fir_takes num mem x ≡ false
-  fir_long e h l = ap (λ z. z && leb num 24 && leb x 1024) (eq-eqb num mem e) ∙ ap (λ z. z && leb x 1024) (le-leb num 24 h) ∙ lt-leb x 1024 l
-
-  pub fir_takes_lem : num ≡ mem → num ≤ 24 → x ≤ 1024 → fir_takes num mem x ≡ true
-  fir_takes_lem e h l = ap (λ z. z && leb num 24 && leb x 1024) (eq-eqb num mem e) ∙ ap (λ z. z && leb x 1024) (le-leb num 24 h) ∙ le-leb x 1024 l

@@ -1,14 +1,15 @@
 -- the memory in a padded buffer, and what is read from it
 use mathlib.Core.Path.{◌≡◌, refl, ap, ◌∙◌, sym}
-use mathlib.Core.Bool.{Bool, true, false, cond, ◌&&◌}
+use mathlib.Core.Bool.{Bool, true, false, cond}
 use mathlib.Core.List.{List}
 use Prim.Native.Nat.{ℕ, zero, suc, ◌+◌, ◌-◌, ◌≤◌, ◌<◌}
 use native.Mathlib.Omega.{arith}
-use lib.Dec.{eqb, ltb, leb}
+use lib.Dec.{eqb, ltb}
 use lib.ListN.{length, get_or, take, drop, set, length-set, replicate, length-replicate}
 use lib.Seq.{get_or-take, get_or-drop, get_or-set_same, get_or-set_other}
 use lib.Ieee.{Float, nan, binary32, sub, mul}
-use borrow.Author.Tests.{eqb-true, eqb-false, ltb-true, ltb-false, le-leb, lt-leb}
+use borrow.Author.Tests.{eqb-true, eqb-false, ltb-true, ltb-false}
+use Rattle.std.proofs.lemmas.Bool.Decides.{nat_tests}
 use Rattle.loops.specs.Fold.{fold_to, fold_same, fold-keeps}
 use Rattle.reply.specs.Reply.{reply, reply_if, reply-lent, reply-taken}
 use Rattle.plc_pad.specs.Past.{past}
@@ -42,16 +43,8 @@ pub remembered-all : (mem pad y : List Float) (k : ℕ) → y ≡ remembered_to 
 unfolding remembered
 remembered-all mem pad y k e q = e ∙ ap (remembered_to mem pad) q
 
--- the tests of the lengths, in their order
-module _ (pad mem : ℕ) where
-  pub pad-short : pad < 24 → pad_takes pad mem ≡ false
-  pad-short h = ap (λ z. z && leb mem 24) (lt-leb 24 pad h)
-
-  pub pad-order : 24 ≤ pad → 24 < mem → pad_takes pad mem ≡ false
-  pad-order h l = ap (λ z. z && leb mem 24) (le-leb 24 pad h) ∙ lt-leb mem 24 l
-
-  pub pad-takes : 24 ≤ pad → mem ≤ 24 → pad_takes pad mem ≡ true
-  pad-takes h l = ap (λ z. z && leb mem 24) (le-leb 24 pad h) ∙ le-leb mem 24 l
+pad-takes : (pad mem : ℕ) → 24 ≤ pad → mem ≤ 24 → pad_takes pad mem ≡ true
+pad-takes pad mem h l = grind (arith, nat_tests)
 
 -- a new buffer of n takes the memory
 pub remember-taken : {r : Bool} {y : List Float} (mem : List Float) (n : ℕ) (v : Float)

@@ -1,10 +1,7 @@
-use mathlib.Core.Logic.{inl, inr}
-use Rattle.std.proofs.Common.{◌≡◌, refl, ◌∙◌, false, true, length, rules}
-use lib.Dec.{eqb}
-use borrow.Author.Tests.{ne_eqb, le-leb}
-use Rattle.loops.specs.Logic.{and_first, and_second}
+use Rattle.std.proofs.lemmas.Bool.Decides.{nat_tests}
+use Rattle.std.proofs.Common.{◌≡◌, refl, ◌∙◌, arith, false, true, length, rules}
+use borrow.Author.Tests.{le-leb}
 use Rattle.reply.specs.Reply.{reply-no, reply-taken}
-use Rattle.history.specs.History.{half}
 use Rattle.plc_lag_window.specs.LagWindow.{lag_window}
 use Rattle.pitch_fit.specs.Fit.{fit_takes}
 use Rattle.pitch_fit.proofs.Laws.{fit_is}
@@ -13,10 +10,7 @@ use Rattle.pitch_fit.proofs.pitch_fit.Goals as goal
 pub returns-then-new-ne-HALF : goal.returns-then-new-ne-HALF
 unfolding fit_takes
 returns-then-new-ne-HALF c =
-    let n = eqb (length c.args.new.now) half in
-    reply-no _ _ _
-    (elim c.then-new-ne-HALF.either [ inl h ↦ and_first n _ (ne_eqb _ _ h) | inr h ↦ and_second n _ (ne_eqb _ _ h.1) ])
-    refl
+    reply-no _ _ _ (grind (arith, nat_tests)) refl
 
 pub returns-in_err-lag_window : goal.returns-in_err-lag_window
 returns-in_err-lag_window c =

@@ -1,17 +1,16 @@
 -- After i turns the first i outputs of either channel stand in its buffer, and behind its memory.
-use mathlib.Core.Logic.{inl, inr}
 use mathlib.Core.Path.{ap₂}
-use Rattle.std.proofs.Common.{refl, ◌∙◌, ◌+◌, ◌-◌, length, arith, rules}
+use Rattle.std.proofs.Common.{refl, ◌∙◌, ◌+◌, ◌-◌, arith, rules}
+use Rattle.std.proofs.lemmas.Bool.Decides.{nat_tests}
 use lib.Ieee.{binary32, of_bits}
 use Rattle.reply.specs.Reply.{reply-yes, reply-no}
 use Rattle.plc_iir_pair.specs.Pair.{channels}
 use Rattle.plc_pad.proofs.Taps.{remember-taken, remembers_all, taps-part}
 use Rattle.plc_iir.proofs.Iirs.{filtered-none, filtered-more, filtered-all}
-use Rattle.plc_iir_pair.proofs.Lengths.{pair-unlike, pair-long, pair-takes}
 use Rattle.plc_iir_pair.proofs.celt_iir_pair.Goals as goal
 
 pub returns-then-a-b : goal.returns-then-a-b
-returns-then-a-b c = reply-no _ _ _ (elim c.then-a-b.either [ inl h ↦ pair-unlike _ _ h | inr h ↦ pair-long _ _ h.0 h.1 ]) refl
+returns-then-a-b c = reply-no _ _ _ (grind (arith, nat_tests)) refl
 
 pub unwrap-requires : goal.unwrap-requires
 unwrap-requires c = remember-taken c.args.mem_a.now 1224 (of_bits binary32 0) c.remember.ensures (search rules) (search rules)
@@ -45,7 +44,7 @@ loop-i-preserved c = let h = c.loop-i in
 pub returns : goal.returns
 returns c = let h = c.loop-i in
     let a = c.args in
-    reply-yes _ _ _ (pair-takes (length a.a.now) (length a.b.now) (search rules) (search rules))
+    reply-yes _ _ _ (grind (arith, nat_tests))
     (ap₂ channels
     (filtered-all a.den_a.now a.mem_a.now a.a.now h.a h.y h.i h.invariant.0 (search rules))
     (filtered-all a.den_b.now a.mem_b.now a.b.now h.b h.z h.i h.invariant.1 (search rules)))
