@@ -1,5 +1,5 @@
 -- What the steps make together, over plain variables.
-use mathlib.Core.Path.{◌≡◌, ap, ◌∙◌, sym, subst}
+use mathlib.Core.Path.{refl, ◌≡◌, ap, ◌∙◌, sym, subst}
 use mathlib.Core.Bool.{Bool, true, false}
 use mathlib.Core.List.{List}
 use Prim.Native.Nat.{ℕ, ◌+◌, ◌-◌, ◌≤◌}
@@ -10,6 +10,7 @@ use lib.Seq.{length-take-le}
 use lib.Ieee.{Float}
 use denote.Bor.{Bor}
 use Rattle.std.specs.Prelude.{Option, Some, None}
+use Rattle.std.specs.Bool.{then_some}
 use borrow.Author.Tests.{eq-eqb}
 use Rattle.loops.specs.Logic.{and_both}
 use Rattle.reply.specs.Reply.{reply-lent, reply-taken}
@@ -29,7 +30,7 @@ module _ (two : Bool) (h : List Float) (l : length h ≡ whole) (z low : List Fl
   Both second = Left (take samples (drop 0 h)) second z t low → (t ≡ true) × (low ≡ low_passed two h)
 
   -- taken, of one channel and of two
-  pub low-one : (second : Option (Bor (List Float))) → second ≡ None → two ≡ false → Both second
+  low-one : (second : Option (Bor (List Float))) → second ≡ None → two ≡ false → Both second
   unfolding low_passed
   low-one second q b =
       subst Both (sym q)
@@ -37,7 +38,7 @@ module _ (two : Bool) (h : List Float) (l : length h ≡ whole) (z low : List Fl
       let g = and_both (eqb (length (take samples (drop 0 h))) samples) (eqb (length z) half) (eq-eqb _ _ (part 0 (lit≤ tt))) (eq-eqb _ _ lz) in
       (reply-taken _ _ _ e ∙ g, reply-lent _ _ _ e g ∙ sym (ap (λ w. low_passed w h) b)))
 
-  pub low-two : (second : Option (Bor (List Float))) (y : Bor (List Float)) → second ≡ Some y → y.now ≡ take samples (drop channel h) → two ≡ true → Both second
+  low-two : (second : Option (Bor (List Float))) (y : Bor (List Float)) → second ≡ Some y → y.now ≡ take samples (drop channel h) → two ≡ true → Both second
   unfolding low_passed
   low-two second y q k b =
       subst Both (sym q)
@@ -50,6 +51,13 @@ module _ (two : Bool) (h : List Float) (l : length h ≡ whole) (z low : List Fl
         reply-lent _ _ _ e g ∙ ap (pitch_downsample_pair (take samples (drop 0 h))) (k ∙ sym (slice-take channel samples h (omega arith)))
             ∙ sym (ap (λ w. low_passed w h) b),
       ))
+
+  pub low-done : (second : Option (Bor (List Float))) (y : Bor (List Float)) → second ≡ then_some two y → y.now ≡ take samples (drop channel h) → Both second
+  low-done second y e k = go two refl e
+    where
+      go : (b : Bool) → two ≡ b → second ≡ then_some b y → Both second
+      go true q p = low-two second y p k q
+      go false q p = low-one second p q
 
 pub search-most : (found : ℕ) (y : List Float) → found ≡ pitch_search y → found ≤ longest_lag
 search-most found y e = omega (arith, offset-le y)

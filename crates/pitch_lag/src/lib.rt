@@ -16,16 +16,12 @@ use reply::Refused;
 const LAG_MOST: usize = 720;
 
 // What the search reads: the used channels' 2,048 samples at half the rate.
-fn low_pass(two: bool, history: &[f32]) -> [f32; 1024]
+fn low_pass(two: bool, history: &[f32]) -> [f32; HALF]
     requires { length history.now ≡ whole }
     ensures { result ≡ low_passed two history.now }
 {
     let mut low = [0.0f32; HALF];
-    let second = if two {
-        Some(&history[CHANNEL..CHANNEL + SAMPLES])
-    } else {
-        None
-    };
+    let second = two.then_some(&history[CHANNEL..CHANNEL + SAMPLES]);
     pitch_downsample(&history[0..SAMPLES], second, &mut low).unwrap();
     low
 }

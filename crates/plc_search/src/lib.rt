@@ -39,6 +39,7 @@ fn every_second(x: &[f32], out: &mut [f32])
     requires { 2 * length out.old ≤ length x.now + 1 }
     ensures { out.new ≡ every_second x.now (length out.old) }
 {
+    // By place: sample j is read at twice its place.
     for (j, v) in out.iter_mut().enumerate() {
         *v = x[2 * j];
     }
