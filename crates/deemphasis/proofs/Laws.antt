@@ -2,9 +2,8 @@
 use mathlib.Core.Path.{◌≡◌, refl, ap, ap₂, ◌∙◌, sym}
 use mathlib.Core.List.{List, [], ◌∷◌, ◌++◌}
 use mathlib.Core.Bool.{Bool, true, false, ◌&&◌}
-use Prim.Native.Nat.{ℕ, ◌+◌, ◌*◌, ◌/◌, ◌%◌, ◌≤◌, ◌<◌}
+use Prim.Native.Nat.{ℕ, ◌+◌, ◌*◌, ◌/◌, ◌%◌, ◌<◌}
 use native.Mathlib.Omega.{arith}
-use native.Mathlib.Nat.{add-mul, one-mul, mul-le-mul_right, div-add-mod', div-mul-le_self}
 use lib.ListN.{length, get_or, drop, set, drop_of_length-le}
 use lib.Dec.{leb, eqb}
 use lib.Ieee.{Float, nan}
@@ -14,20 +13,6 @@ use Rattle.loops.specs.Front.{tab, front, tab-same}
 use Rattle.loops.specs.Logic.{and-true, and_first, and_second}
 use Rattle.reply.specs.Reply.{reply, reply-yes, reply-no}
 use Rattle.deemphasis.specs.Deemphasis.{next_memory, memory_to, pcm_value, sample_at, value_at, has_room, Room, sound, deemphasis, length_pcm, deemphasised, deemphasis_mono, deemphasis_stereo}
-
--- the samples of one kept value lie within the frame
-pub next-in : (q d n : ℕ) → q < n / d → q * d + d ≤ n
-next-in q d n h =
-    let a : (q + 1) * d ≡ q * d + d = add-mul q 1 d ∙ ap (λ z. q * d + z) (one-mul d) in
-    let b : (q + 1) * d ≤ n / d * d = mul-le-mul_right d (omega arith) in
-    omega (arith, div-mul-le_self n d)
-
-pub next-is : (q d : ℕ) → q * d + d ≡ (q + 1) * d
-next-is q d = sym (add-mul q 1 d ∙ ap (λ z. q * d + z) (one-mul d))
-
--- all of the frame, where it divides evenly
-pub all-samples : (n d : ℕ) → n % d ≡ 0 → n / d * d ≡ n
-all-samples n d e = omega (arith, div-add-mod' n d)
 
 pub memory_none : (v : List Float) (mem : Float) → mem ≡ memory_to v mem 0
 unfolding memory_to

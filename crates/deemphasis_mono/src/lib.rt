@@ -17,15 +17,12 @@ fn filter_mono(v: &[f32], memory: f32, downsample: usize, pcm: &mut [f32]) -> f3
         × (pcm.new ≡ front (tab (value_at downsample (v.now ∷ []) (memory ∷ [])) (length v.now / downsample))
         pcm.old (length v.now / downsample)) }
 {
-    let count = v.len() / downsample;
     let mut mem = memory;
-    let mut j: usize = 0;
-    for q in 0..count {
-        pcm[q] = pcm_value(mem, v[j]);
-        let next = j + downsample;
-        while j < next {
+    for q in 0..v.len() / downsample {
+        let from = q * downsample;
+        pcm[q] = pcm_value(mem, v[from]);
+        for j in from..from + downsample {
             mem = next_memory(mem, v[j]);
-            j += 1;
         }
     }
     mem

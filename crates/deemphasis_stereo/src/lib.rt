@@ -10,7 +10,8 @@ ghost use Rattle.deemphasis.specs.Deemphasis.{memory_to, Room, value_at, sound, 
 use deemphasis::{has_room, next_memory, pcm_value};
 use reply::Refused;
 
-// Both channels in one loop, so that their two chains of additions run side by side.
+// Both channels in one loop, so that their two chains of additions run side by side. A function of its own beside that of one
+// channel: an array of slices whose length is a const parameter is not covered by the check.
 fn filter_stereo(
     v: &[f32],
     w: &[f32],
@@ -24,18 +25,15 @@ fn filter_stereo(
         × (pcm.new ≡ front (tab (value_at downsample (v.now ∷ w.now ∷ []) (left ∷ right ∷ [])) (2 * (length v.now / downsample)))
         pcm.old (2 * (length v.now / downsample))) }
 {
-    let count = v.len() / downsample;
     let mut first = left;
     let mut second = right;
-    let mut j: usize = 0;
-    for q in 0..count {
-        pcm[2 * q] = pcm_value(first, v[j]);
-        pcm[2 * q + 1] = pcm_value(second, w[j]);
-        let next = j + downsample;
-        while j < next {
+    for q in 0..v.len() / downsample {
+        let from = q * downsample;
+        pcm[2 * q] = pcm_value(first, v[from]);
+        pcm[2 * q + 1] = pcm_value(second, w[from]);
+        for j in from..from + downsample {
             first = next_memory(first, v[j]);
             second = next_memory(second, w[j]);
-            j += 1;
         }
     }
     [first, second]

@@ -1,21 +1,14 @@
-use mathlib.Core.Path.{◌≡◌}
-use mathlib.Core.List.{[], ◌∷◌}
-use Prim.Native.Nat.{◌≤◌, ◌-◌, ◌*◌}
-use lib.ListN.{length}
+use Rattle.std.proofs.Common.{◌≡◌, [], ◌∷◌, ◌*◌}
 use Rattle.loops.specs.Front.{front, tab}
 use Rattle.deemphasis.specs.Deemphasis.{memory_to, value_at}
 use Rattle.deemphasis_mono.proofs.filter_mono.Given as goal
 
+-- after j samples
 abbrev pub invariant-loop-j : goal.invariant-loop-j
-invariant-loop-j l = (l.j ≤ l.next) × (l.next ≤ length l.v) × (l.mem ≡ memory_to l.v l.memory l.j)
+invariant-loop-j l = l.mem ≡ memory_to l.v l.memory l.j
 
-abbrev pub decreases-loop-j : goal.decreases-loop-j
-decreases-loop-j l = l.next - l.j
-
+-- after q values
 abbrev pub invariant-loop-q : goal.invariant-loop-q
 invariant-loop-q l =
-    (l.q ≤ l.count) × (l.j ≡ l.q * l.downsample) × (length l.pcm ≡ length l.initial.pcm) × (l.mem ≡ memory_to l.v l.memory l.j)
+    (l.mem ≡ memory_to l.v l.memory (l.q * l.downsample))
     × (l.pcm ≡ front (tab (value_at l.downsample (l.v ∷ []) (l.memory ∷ [])) l.q) l.initial.pcm l.q)
-
-abbrev pub decreases-loop-q : goal.decreases-loop-q
-decreases-loop-q l = l.count - l.q
