@@ -4,11 +4,10 @@ ghost use Rattle.history.specs.History.{tails, with_tails};
 ghost use Rattle.state.specs.Refusal.{refuses_state};
 ghost use Rattle.loss.specs.Loss.{noise_made, tails_by_noise};
 
-use crate::NOISE_KIND;
 use finish::Made;
 use noise_energies::{lower_energies, read_energies};
 use noise_loss::noise_loss;
-use state::State;
+use state::{Kind, State};
 
 // What comfort noise makes of a state, and leaves in its history.
 pub(crate) fn noise_made(s: State, history: &mut [f32]) -> Made
@@ -16,24 +15,21 @@ pub(crate) fn noise_made(s: State, history: &mut [f32]) -> Made
     ensures { (result ≡ noise_made s) × (history.new ≡ with_tails history.old (tails_by_noise s (tails history.old))) }
 {
     let k = s.settings;
-    let count = s.loss_count;
-    let before = s.coarse;
     let coarse = lower_energies(
-        before,
+        s.coarse,
         k.channels as usize,
         k.start as usize,
         k.end as usize,
-        count,
+        s.loss_count,
     );
-    let background = s.background;
-    let energies = read_energies(coarse, background, count);
-    let drawn = noise_loss(k, history, s.seed, energies);
+    let energies = read_energies(coarse, s.background, s.loss_count);
+    let seed = noise_loss(k, history, s.seed, energies).unwrap();
     let predictor = s.predictor;
     Made {
-        kind: NOISE_KIND,
-        seed: drawn.seed,
+        kind: Kind::Noise,
+        seed,
         lag: s.lag,
-        coarse: coarse,
-        predictor: predictor,
+        coarse,
+        predictor,
     }
 }
