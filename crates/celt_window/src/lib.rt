@@ -5,7 +5,9 @@
 ghost use Rattle.std.specs.Prelude.{◌≡◌};
 ghost use Rattle.celt_window.specs.Window.{window, low_overlap_window};
 
-const WINDOW: [f32; 120] = [
+use custom_mode::standard::OVERLAP;
+
+const WINDOW: [f32; OVERLAP] = [
     0.000067286965,
     0.00060551346,
     0.001681597,
@@ -129,24 +131,25 @@ const WINDOW: [f32; 120] = [
 ];
 
 // The table, by value: whoever reads it often takes it once and lends it.
-pub fn window() -> [f32; 120]
+#[tactic(auto, unfolding(crate::specs::Window::window, crate::specs::Window::window_bits))]
+pub fn window() -> [f32; OVERLAP]
     ensures { result ≡ window }
 {
     WINDOW
 }
 
 // The window of one long block of n + 120 samples, w being the rising half: it rises, stays at 1 and falls.
-pub fn low_overlap_window(w: &[f32; 120], n: usize, j: usize) -> f32
+#[tactic(auto, using(std::proofs::lemmas::Bool::Decides::nat_tests), unfolding(crate::specs::Window::low_overlap_window))]
+pub fn low_overlap_window(w: &[f32; OVERLAP], n: usize, j: usize) -> f32
     ensures { result ≡ low_overlap_window w.now n j }
 {
-    if j < 120 {
-        return w[j];
+    if j < OVERLAP {
+        w[j]
+    } else if j < n {
+        1.0
+    } else if j - n < OVERLAP {
+        w[OVERLAP - 1 - (j - n)]
+    } else {
+        0.0
     }
-    if j < n {
-        return 1.0;
-    }
-    if j - n < 120 {
-        return w[119 - (j - n)];
-    }
-    0.0
 }
