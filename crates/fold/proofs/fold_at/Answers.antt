@@ -1,9 +1,8 @@
-use mathlib.Core.Path.{ap}
-use mathlib.Core.List.{List}
-use Prim.Native.Nat.{ℕ, ◌-◌}
-use lib.ListN.{get_or}
-use lib.Ieee.{Float, nan, binary32, add, mul}
+use Rattle.std.proofs.Common.{ap, List, ℕ, ◌-◌, get_or}
+use Rattle.std.specs.Float.{Float, nan, binary32}
+use Rattle.std.specs.Float.Ieee.{add, mul}
 use Rattle.fold.specs.Fold.{last, fold_at}
+use Rattle.fold.proofs.Laws.{nearer}
 use Rattle.fold.proofs.fold_at.Goals as goal
 
 -- the sum that place k shares, i from an end
@@ -14,5 +13,4 @@ place w x k i =
 
 pub returns : goal.returns
 unfolding fold_at place
-returns c =
-    let a = c.args in ap (place a.w.now a.x.now a.k) c.from_end-i.ensures.0
+returns c = ap (place c.args.w.now c.args.x.now c.args.k) (nearer c.args.k _ c.min-i.ensures c.requires.1)
