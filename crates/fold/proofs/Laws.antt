@@ -23,7 +23,8 @@ unfolding fold_takes
 fold-yes a b p q = grind (arith, nat_tests)
 
 -- all places are folded
-pub folded-all : (w v x over over₀ : List Float) (k : ℕ) → over ≡ front (tab (fold_at w x) k) over₀ k → length over₀ ≡ k → length over₀ ≡ overlap → w ≡ v → over ≡ folded v x
+pub folded-all : (w v x over over₀ : List Float) (k : ℕ) → over ≡ front (tab (fold_at w x) k) over₀ k → length over₀ ≡ k
+    → length over₀ ≡ overlap → w ≡ v → over ≡ folded v x
 unfolding folded
 folded-all w v x over over₀ k e l m p =
     tab-all _ nan over₀ over k e l ∙ ap (tab (fold_at w x)) m ∙ ap (λ z. tab (fold_at z x) overlap) p
