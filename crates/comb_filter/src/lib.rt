@@ -8,7 +8,7 @@ ghost use Rattle.post_filter.specs.Limits.{period_most};
 ghost use Rattle.history.specs.History.{half, overlap};
 ghost use Rattle.comb_filter.specs.Comb.{tap_gain, comb_at, comb_filter_to, comb_filtered, comb_takes};
 
-use history::{HALF, OVERLAP};
+use history::{HALF, OVERLAP, TAIL};
 use post_filter::{Filter, comb_gains, filter_fits};
 use reply::Refused;
 
@@ -50,7 +50,7 @@ pub fn comb_filter_to(dst: &mut [f32], x: &[f32], f: Filter) -> Result<(), Refus
     ensures { replied result dst.new
         ≡ reply_if (comb_takes (length dst.old) (length x.now) f) (comb_filtered f x.now) dst.old }
 {
-    if dst.len() != OVERLAP || x.len() != HALF + OVERLAP || !filter_fits(f) {
+    if dst.len() != OVERLAP || x.len() != TAIL || !filter_fits(f) {
         return Err(Refused);
     }
     let g = tap_gains(f);

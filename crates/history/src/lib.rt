@@ -7,12 +7,15 @@
 pub const HALF: usize = 1024;
 
 // A channel's samples without its overlap.
-pub const SAMPLES: usize = 2048;
+pub const SAMPLES: usize = 2 * HALF;
 
 pub const OVERLAP: usize = custom_mode::standard::OVERLAP;
 
+// What a loss may change of a channel: its newest 1,024 samples and its overlap.
+pub const TAIL: usize = HALF + OVERLAP;
+
 // A channel with its overlap; channel 1 starts here.
-pub const CHANNEL: usize = 2168;
+pub const CHANNEL: usize = SAMPLES + OVERLAP;
 
 // Both channels.
-pub const WHOLE: usize = 4336;
+pub const WHOLE: usize = 2 * CHANNEL;

@@ -2,38 +2,27 @@
 
 #![tactic(auto)]
 
-ghost use Rattle.std.specs.Prelude.{◌≡◌, true, ◌+◌, length};
-ghost use Rattle.reply.specs.Reply.{reply, reply_if};
-ghost use Rattle.post_filter.specs.Limits.{filter_fits};
-ghost use Rattle.history.specs.History.{half, overlap};
+ghost use Rattle.std.specs.Prelude.{◌≡◌, length};
+ghost use Rattle.reply.specs.Reply.{replied, reply_if};
 ghost use Rattle.prefilter.specs.Prefilter.{pre_filtered_end, prefilter_takes};
 
 use comb_filter::comb_filter_to;
-use history::{HALF, OVERLAP};
+use history::{HALF, OVERLAP, TAIL};
 use post_filter::{Filter, filter_fits};
-
-fn filter_overlap(t: &mut [f32], f: Filter)
-    requires { (length t.old ≡ half + overlap) × (filter_fits f ≡ true) }
-    ensures { t.new ≡ pre_filtered_end f t.old }
-{
-    if f.gain == 0.0 {
-        return;
-    }
-    let mut pre = [0.0f32; OVERLAP];
-    comb_filter_to(&mut pre, t, f);
-    copying::copy(&mut t[HALF..], &pre);
-}
+use reply::Refused;
 
 // A gain of zero leaves the overlap, a NaN does not. Refused, with t as lent: t not of 1,144 samples, a setting outside its limits.
-pub fn prefilter(t: &mut [f32], f: Filter) -> bool
-    ensures { reply result t.new ≡ reply_if (prefilter_takes (length t.old) f) (pre_filtered_end f t.old) t.old }
+pub fn prefilter(t: &mut [f32], f: Filter) -> Result<(), Refused>
+    ensures { replied result t.new ≡ reply_if (prefilter_takes (length t.old) f) (pre_filtered_end f t.old) t.old }
 {
-    if t.len() != HALF + OVERLAP {
-        return false;
+    if t.len() != TAIL || !filter_fits(f) {
+        return Err(Refused);
     }
-    if !filter_fits(f) {
-        return false;
+    if f.gain == 0.0 {
+        return Ok(());
     }
-    filter_overlap(t, f);
-    true
+    let mut pre = [0.0; OVERLAP];
+    comb_filter_to(&mut pre, t, f)?;
+    t[HALF..].copy_from_slice(&pre);
+    Ok(())
 }

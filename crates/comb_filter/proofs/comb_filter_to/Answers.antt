@@ -5,7 +5,8 @@ use Rattle.loops.specs.Front.{tab-none, tab-more}
 use Rattle.reply.specs.Reply.{reply-yes, reply-no}
 use Rattle.comb_filter.proofs.Laws.{comb-no, comb-yes, within, filtered-all}
 use Rattle.comb_filter.proofs.comb_filter_to.Goals as goal
-use Rattle.comb_filter.proofs.comb_filter_to.Goals.{then-dst-ne-OVERLAP-via-then-dst-ne-OVERLAP, then-dst-ne-OVERLAP-via-else-dst-ne-OVERLAP+then-x, then-dst-ne-OVERLAP-via-else-dst-ne-OVERLAP+else-x+then-not-filter_fits}
+use Rattle.comb_filter.proofs.comb_filter_to.Goals.{then-dst-ne-OVERLAP-via-then-dst-ne-OVERLAP, then-dst-ne-OVERLAP-via-else-dst-ne-OVERLAP+then-x-ne-TAIL}
+use Rattle.comb_filter.proofs.comb_filter_to.Goals.{then-dst-ne-OVERLAP-via-else-dst-ne-OVERLAP+else-x-ne-TAIL+then-not-filter_fits}
 
 pub returns-then-dst-ne-OVERLAP : goal.returns-then-dst-ne-OVERLAP
 returns-then-dst-ne-OVERLAP c =
@@ -13,8 +14,8 @@ returns-then-dst-ne-OVERLAP c =
     (comb-no _ _ _
     (elim c.then-dst-ne-OVERLAP.branch [
       | then-dst-ne-OVERLAP-via-then-dst-ne-OVERLAP w ↦ inl w.if-dst-ne-OVERLAP.true
-      | then-dst-ne-OVERLAP-via-else-dst-ne-OVERLAP+then-x w ↦ inr (inl w.if-x.true)
-      | then-dst-ne-OVERLAP-via-else-dst-ne-OVERLAP+else-x+then-not-filter_fits w ↦ inr (inr (sym w.filter_fits.ensures ∙ w.if-not-filter_fits.true))
+      | then-dst-ne-OVERLAP-via-else-dst-ne-OVERLAP+then-x-ne-TAIL w ↦ inr (inl w.if-x-ne-TAIL.true)
+      | then-dst-ne-OVERLAP-via-else-dst-ne-OVERLAP+else-x-ne-TAIL+then-not-filter_fits w ↦ inr (inr (sym w.filter_fits.ensures ∙ w.if-not-filter_fits.true))
     ]))
     refl
 
@@ -22,12 +23,12 @@ pub loop-i-init : goal.loop-i-init
 loop-i-init c = tab-none _ _
 
 pub comb_at-requires : goal.comb_at-requires
-comb_at-requires c = within _ _ c.args.f (sym c.if-not-filter_fits.ensures) c.if-x.false (omega arith)
+comb_at-requires c = within _ _ c.args.f (sym c.if-not-filter_fits.ensures) c.if-x-ne-TAIL.false (omega arith)
 
 pub loop-i-preserved : goal.loop-i-preserved
 loop-i-preserved c = tab-more _ nan _ _ _ c.loop-i.invariant _ c.comb_at.ensures (omega arith)
 
 pub returns : goal.returns
 returns c =
-    reply-yes _ _ _ (comb-yes _ _ _ c.if-dst-ne-OVERLAP.false c.if-x.false (sym c.if-not-filter_fits.ensures))
+    reply-yes _ _ _ (comb-yes _ _ _ c.if-dst-ne-OVERLAP.false c.if-x-ne-TAIL.false (sym c.if-not-filter_fits.ensures))
     (filtered-all _ _ _ _ _ _ _ _ c.tap_gains-g.ensures c.loop-i.invariant (omega arith) c.if-dst-ne-OVERLAP.false)

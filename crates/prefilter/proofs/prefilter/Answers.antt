@@ -1,37 +1,37 @@
-use mathlib.Core.Path.{◌≡◌, refl, ◌∙◌, sym}
-use Prim.Native.Nat.{◌+◌}
-use lib.ListN.{length}
-use lib.Dec.{eqb}
-use borrow.Author.Rules.{rules}
-use borrow.Author.Tests.{eq-eqb, ne_eqb}
-use Rattle.loops.specs.Logic.{and_both, and_first, and_second}
-use Rattle.reply.specs.Reply.{reply-yes, reply-no}
-use mathlib.Core.Bool.{true}
-use Rattle.post_filter.specs.Limits.{filter_fits}
-use Rattle.history.specs.History.{half, overlap}
-use Rattle.prefilter.specs.Prefilter.{prefilter_takes}
+use Rattle.std.proofs.Common.{◌≡◌, refl, sym, ◌∙◌, true, false}
+use mathlib.Core.Logic.{inl, inr}
+use Rattle.reply.specs.Reply.{reply-yes, reply-no, reply-lent, reply-taken}
+use Rattle.comb_filter.proofs.Laws.{comb-yes}
+use Rattle.prefilter.specs.Prefilter.{skips}
+use Rattle.prefilter.proofs.Laws.{prefilter-no, prefilter-yes, pre_skip, pre-put}
 use Rattle.prefilter.proofs.prefilter.Goals as goal
+use Rattle.prefilter.proofs.prefilter.Goals.{then-t-ne-TAIL-via-then-t-ne-TAIL, then-t-ne-TAIL-via-else-t-ne-TAIL+then-not-filter_fits}
 
-pub returns-then-t : goal.returns-then-t
-unfolding prefilter_takes
-returns-then-t c =
-    let a = c.args in
-    reply-no _ _ _ (and_first (eqb (length a.t.now) (half + overlap)) _ (ne_eqb _ _ c.if-t.true)) refl
+pub returns-then-t-ne-TAIL : goal.returns-then-t-ne-TAIL
+returns-then-t-ne-TAIL c =
+    reply-no _ _ _
+    (prefilter-no _ _
+    (elim c.then-t-ne-TAIL.branch [
+      | then-t-ne-TAIL-via-then-t-ne-TAIL w ↦ inl w.if-t-ne-TAIL.true
+      | then-t-ne-TAIL-via-else-t-ne-TAIL+then-not-filter_fits w ↦ inr (sym w.filter_fits.ensures ∙ w.if-not-filter_fits.true)
+    ]))
+    refl
 
-pub returns-then-not-filter_fits : goal.returns-then-not-filter_fits
-unfolding prefilter_takes
-returns-then-not-filter_fits c =
-    let a = c.args in
-    reply-no _ _ _ (and_second (eqb (length a.t.now) (half + overlap)) _ (sym c.filter_fits.ensures ∙ c.if-not-filter_fits.true)) refl
+pub returns-then-f : goal.returns-then-f
+unfolding skips
+returns-then-f c =
+    reply-yes _ _ _ (prefilter-yes _ c.args.f c.if-t-ne-TAIL.false (sym c.if-not-filter_fits.ensures)) (pre_skip _ _ c.if-f.true)
 
-pub filter_overlap-requires : goal.filter_overlap-requires
-filter_overlap-requires c = (search rules, sym c.filter_fits.ensures ∙ c.if-not-filter_fits.false)
+pub returns-in_err-comb_filter_to : goal.returns-in_err-comb_filter_to
+returns-in_err-comb_filter_to c =
+    let no : false ≡ true = reply-taken _ _ _ c.in_err-comb_filter_to.ensures ∙ comb-yes _ _ c.args.f refl c.if-t-ne-TAIL.false (sym c.if-not-filter_fits.ensures) in
+    cc
 
 pub returns : goal.returns
-unfolding prefilter_takes
+unfolding skips
 returns c =
-    let a = c.args in
-    let e : length a.t.now ≡ half + overlap = search rules in
-    let f : filter_fits a.f ≡ true =
-    sym c.filter_fits.ensures ∙ c.if-not-filter_fits.false in
-    reply-yes _ _ _ (and_both (eqb (length a.t.now) (half + overlap)) _ (eq-eqb _ _ e) f) c.filter_overlap.ensures
+    reply-yes _ _ _ (prefilter-yes _ c.args.f c.if-t-ne-TAIL.false (sym c.if-not-filter_fits.ensures))
+    (pre-put _ _ _ _ _ c.if-f.false refl
+    (reply-lent _ _ _ c.in_ok-comb_filter_to.ensures
+    (comb-yes _ _ c.args.f refl c.if-t-ne-TAIL.false (sym c.if-not-filter_fits.ensures)))
+    c.copy_from_slice.ensures.after)
