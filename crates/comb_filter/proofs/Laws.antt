@@ -9,10 +9,6 @@ use Rattle.post_filter.specs.Limits.{filter_fits, fits_each}
 use Rattle.history.specs.History.{half, overlap}
 use Rattle.comb_filter.specs.Comb.{tap_gain, comb_at, comb_filter_to, comb_filtered, comb_takes}
 
-pub comb-no : (n m : ℕ) (f : Filter) → (n ≡ overlap → ⊥) ⊎ ((m ≡ half + overlap → ⊥) ⊎ (filter_fits f ≡ false)) → comb_takes n m f ≡ false
-unfolding comb_takes
-comb-no n m f h = grind (arith, nat_tests)
-
 pub comb-yes : (n m : ℕ) (f : Filter) → n ≡ overlap → m ≡ half + overlap → filter_fits f ≡ true → comb_takes n m f ≡ true
 unfolding comb_takes
 comb-yes n m f p q r = grind (arith, nat_tests)

@@ -46,6 +46,7 @@ fn comb_at(x: &[f32], i: usize, period: usize, g: Taps) -> f32
 
 // The overlap at the end of x filtered into dst; x itself is only read. Refused, with dst as lent: dst not of 120 samples,
 // x not of 1,144, a setting outside its limits.
+#[tactic(auto, using(std::proofs::lemmas::Bool::Decides::nat_tests), unfolding(reply::specs::Reply::reply_if, crate::specs::Comb::comb_takes))]
 pub fn comb_filter_to(dst: &mut [f32], x: &[f32], f: Filter) -> Result<(), Refused>
     ensures { replied result dst.new
         ≡ reply_if (comb_takes (length dst.old) (length x.now) f) (comb_filtered f x.now) dst.old }

@@ -14,10 +14,6 @@ pub nearer : (k n : ℕ) → n ≡ min k (119 - k) → k < overlap → n ≡ fro
 unfolding from_end
 nearer k n e h = grind (arith, nat_tests)
 
-pub fold-no : (a b : ℕ) → (a ≡ overlap → ⊥) ⊎ ((a ≡ overlap) × (b ≡ overlap → ⊥)) → fold_takes a b ≡ false
-unfolding fold_takes
-fold-no a b h = grind (arith, nat_tests)
-
 pub fold-yes : (a b : ℕ) → a ≡ overlap → b ≡ overlap → fold_takes a b ≡ true
 unfolding fold_takes
 fold-yes a b p q = grind (arith, nat_tests)

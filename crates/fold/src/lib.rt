@@ -24,6 +24,7 @@ fn fold_at(w: &[f32; OVERLAP], x: &[f32], k: usize) -> f32
 }
 
 // x, the concealed tail, folded into the overlap by the window. Refused: either not of 120 samples.
+#[tactic(auto, using(std::proofs::lemmas::Bool::Decides::nat_tests), unfolding(reply::specs::Reply::reply_if, crate::specs::Fold::fold_takes))]
 pub fn fold_tail(over: &mut [f32], x: &[f32]) -> Result<(), Refused>
     ensures { replied result over.new
         ≡ reply_if (fold_takes (length over.old) (length x.now)) (folded window x.now) over.old }

@@ -1,5 +1,6 @@
 -- Laws of plain variables that the proofs cite.
-use Rattle.std.proofs.Common.{◌≡◌, ap, ◌∙◌, sym, true, false, List, ◌++◌, ℕ, ◌+◌, ◌-◌, ◌≤◌, length, take, drop, arith, length-drop, drop_of_length-le, take-append-drop, append-nil}
+use Rattle.std.proofs.Common.{◌≡◌, ap, ◌∙◌, sym, true, false, List, ◌++◌, ℕ, ◌+◌, ◌-◌, ◌≤◌, length, take, drop}
+use Rattle.std.proofs.Common.{arith, length-drop, drop_of_length-le, take-append-drop, append-nil}
 use mathlib.Core.Logic.{◌⊎◌}
 use Rattle.std.proofs.lemmas.Bool.Decides.{nat_tests}
 use Rattle.std.specs.Float.{Float}
@@ -10,10 +11,6 @@ use Rattle.post_filter.specs.Limits.{filter_fits}
 use Rattle.history.specs.History.{half, overlap}
 use Rattle.comb_filter.specs.Comb.{comb_filtered}
 use Rattle.prefilter.specs.Prefilter.{skips, pre_filtered, pre_filtered_end, prefilter_takes}
-
-pub prefilter-no : (n : ℕ) (f : Filter) → (n ≡ half + overlap → ⊥) ⊎ (filter_fits f ≡ false) → prefilter_takes n f ≡ false
-unfolding prefilter_takes
-prefilter-no n f h = grind (arith, nat_tests)
 
 pub prefilter-yes : (n : ℕ) (f : Filter) → n ≡ half + overlap → filter_fits f ≡ true → prefilter_takes n f ≡ true
 unfolding prefilter_takes

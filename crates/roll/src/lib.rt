@@ -9,6 +9,7 @@ ghost use Rattle.roll.specs.Roll.{rolled};
 use reply::Refused;
 
 // Moves new back by a frame and takes the frame in at its newest end. A frame longer than new is refused.
+#[tactic(auto, using(std::proofs::lemmas::Bool::Decides::nat_tests), unfolding(reply::specs::Reply::reply_if))]
 pub fn roll(new: &mut [f32], frame: &[f32]) -> Result<(), Refused>
     ensures { replied result new.new
         ≡ reply_if (leb (length frame.now) (length new.old)) (rolled frame.now new.old) new.old }

@@ -1,16 +1,22 @@
 -- What a frame taken in leaves of a tail, over plain variables.
 use mathlib.Core.Path.{◌≡◌, refl, ap, sym, ◌∙◌}
-use mathlib.Core.Bool.{Bool, true}
+use mathlib.Core.Bool.{Bool, true, false}
 use mathlib.Core.List.{List, [], ◌++◌, append-nil}
-use Prim.Native.Nat.{ℕ, ◌+◌, ◌-◌, ◌≤◌}
+use Prim.Native.Nat.{ℕ, ◌+◌, ◌-◌, ◌≤◌, ◌<◌}
 use native.Mathlib.Omega.{arith}
 use lib.Dec.{eqb, leb}
 use lib.ListN.{length, take, drop, length-append, length-drop, drop_of_length-le}
 use lib.Seq.{slice, length-slice, length-take-le, take_at, drop_at}
 use lib.Ieee.{Float}
 use borrow.Author.Tests.{eqb-true, leb-true, eq-eqb, le-leb}
+use mathlib.Core.Logic.{◌⊎◌}
+use Rattle.std.proofs.lemmas.Bool.Decides.{nat_tests}
+use Rattle.loops.specs.Part.{put}
+use Rattle.history.proofs.Parts.{slice-take}
+use Rattle.fold.proofs.Laws.{fold-yes}
+use Rattle.prefilter.proofs.Laws.{prefilter-yes}
 use Rattle.loops.specs.Logic.{and-true, and_both}
-use Rattle.reply.specs.Reply.{reply, reply_if, reply-lent}
+use Rattle.reply.specs.Reply.{reply, reply_if, reply-lent, reply-yes, reply-taken}
 use Rattle.history.specs.History.{half, overlap, Tail, tail_list, tail_of}
 use Rattle.history.proofs.Parts.{TailSized}
 use Rattle.celt_window.specs.Window.{window}
@@ -46,6 +52,12 @@ unfolding tail_takes
 tail-takes size n m f p q r s =
     and_both (eqb size (half + overlap)) _ (eq-eqb _ _ p) (and_both (leb n longest_frame) _ (le-leb _ _ q) (and_both (eqb m (n + extra)) _ (eq-eqb _ _ r) s))
 
+-- what a step did that cannot refuse, by what stood before it
+passed-on : {A : Type 0} (t : Bool) (v : A) (b d : Bool) (x y was before : A)
+    → reply t v ≡ reply_if b x was → b ≡ true → d ≡ true → x ≡ y → reply t v ≡ reply_if d y before
+passed-on t v b d x y was before e p q h =
+    ap (λ z. reply z v) (reply-taken b x was e ∙ p) ∙ reply-yes d y before q (reply-lent b x was e p ∙ h)
+
 pub after-sized : (n : ℕ) (e : List Float) (f : Filter) (t : Tail) → length e ≡ n + extra → n ≤ longest_frame → TailSized t → TailSized (tail_after n e f t)
 unfolding tail_after
 after-sized n e f t l h z = record {
@@ -74,51 +86,62 @@ module _ (n : ℕ) (x e : List Float) (f : Filter) (lx : length x ≡ half + ove
   unfolding over
   over-size = length-folded _ _
 
-  tail-size : length (slice n (n + overlap) e) ≡ overlap
-  tail-size = omega (arith, length-slice n (n + overlap) e (omega arith))
-
   tail-after : tail_list (tail_after n e f (tail_of x)) ≡ framed ++ pre_filtered f framed over
   unfolding tail_list tail_after tail_of framed over
   tail-after = refl
 
-  -- r: the newest after the roll; t: the whole after it; y: the new overlap; u: the whole after the fold
-  module _ (r t y u : List Float) (k : ℕ) (b0 b1 : Bool)
-      (p0 : reply b0 r ≡ reply_if (leb (length (take n e)) (length (take half x))) (rolled (take n e) (take half x)) (take half x))
-      (p1 : t ≡ r ++ drop half x) (pk : k ≡ length t - half) (z : List Float) (pz : z ≡ slice n (n + overlap) e)
-      (p2 : reply b1 y ≡ reply_if (fold_takes (length (take k (drop half t))) (length z)) (folded window z) (take k (drop half t)))
-      (p3 : u ≡ take half t ++ (y ++ drop k (drop half t))) where
-    rolled-is : t ≡ framed ++ drop half x
+  -- the roll takes the frame
+  pub roll-takes : leb (length (take n e)) (length (take half x)) ≡ true
+  roll-takes = le-leb (length (take n e)) (length (take half x)) (omega (arith, frame-size, half-size))
+
+  -- r: the newest after the roll
+  module _ (r : List Float) (b : Bool)
+      (p : reply b r ≡ reply_if (leb (length (take n e)) (length (take half x))) (rolled (take n e) (take half x)) (take half x)) where
+    rolled-is : r ++ drop half x ≡ framed ++ drop half x
     unfolding framed
-    rolled-is =
-        p1
-        ∙ ap (λ w. w ++ drop half x)
-        (reply-lent _ _ _ p0 (le-leb (length (take n e)) (length (take half x)) (omega (arith, frame-size, half-size))))
+    rolled-is = ap (λ w. w ++ drop half x) (reply-lent _ _ _ p roll-takes)
 
-    whole-size : length t ≡ half + overlap
-    whole-size = ap length rolled-is ∙ omega (arith, length-append framed (drop half x), length-drop half x, framed-size)
+    -- the part from 1,024 on is the overlap, and what is folded into it is as long: the fold takes both
+    part-size : (k : ℕ) → k ≡ length (r ++ drop half x) - half → length (take k (drop half (r ++ drop half x))) ≡ overlap
+    part-size k q =
+        let l : length (r ++ drop half x) ≡ half + overlap =
+        ap length rolled-is ∙ omega (arith, length-append framed (drop half x), length-drop half x, framed-size) in
+        omega (
+          arith,
+          length-drop half (r ++ drop half x),
+          length-take-le k (drop half (r ++ drop half x)) (omega (arith, length-drop half (r ++ drop half x))),
+        )
 
-    part-size : length (take k (drop half t)) ≡ overlap
-    part-size = omega (arith, whole-size, length-drop half t, length-take-le k (drop half t) (omega (arith, length-drop half t)))
+    next : take (n + overlap - n) (drop n e) ≡ slice n (n + overlap) e
+    next =
+        let s : n + overlap - n ≡ overlap = omega arith in
+        ap (λ w. take w (drop n e)) s ∙ sym (slice-take n overlap e (omega arith))
 
-    folded-is : y ≡ over
-    unfolding fold_takes over
-    folded-is =
-        reply-lent _ _ _ p2
-        (and_both (eqb (length (take k (drop half t))) overlap) (eqb (length z) overlap) (eq-eqb _ _ part-size) (eq-eqb _ _ (ap length pz ∙ tail-size)))
-        ∙ ap (folded window) pz
+    pub fold-takes : (k : ℕ) → k ≡ length (r ++ drop half x) - half
+        → fold_takes (length (take k (drop half (r ++ drop half x)))) (length (take (n + overlap - n) (drop n e))) ≡ true
+    fold-takes k q = fold-yes _ _ (part-size k q) (ap length next ∙ omega (arith, length-slice n (n + overlap) e (omega arith)))
 
-    joined_is : u ≡ framed ++ over
-    joined_is =
-        let a : take half t ≡ framed = ap (take half) rolled-is ∙ take_at framed (drop half x) half framed-size in
-        let b : drop k (drop half t) ≡ [] = drop_of_length-le (drop half t) {i = k} (omega (arith, length-drop half t)) in
-        p3 ∙ (λ i. a i ++ (folded-is i ++ b i)) ∙ ap (λ w. framed ++ w) (append-nil over)
+    -- y: the overlap after the fold, and u the whole then
+    module _ (y : List Float) (c : Bool) (k : ℕ) (pk : k ≡ length (r ++ drop half x) - half)
+        (q : reply c y ≡ reply_if (fold_takes (length (take k (drop half (r ++ drop half x)))) (length (take (n + overlap - n) (drop n e))))
+        (folded window (take (n + overlap - n) (drop n e))) (take k (drop half (r ++ drop half x)))) where
+      joined_is : put half k y (r ++ drop half x) ≡ framed ++ over
+      unfolding over
+      joined_is =
+          let a : take half (r ++ drop half x) ≡ framed = ap (take half) rolled-is ∙ take_at framed (drop half x) half framed-size in
+          let b : drop k (drop half (r ++ drop half x)) ≡ [] =
+          drop_of_length-le (drop half (r ++ drop half x)) {i = k} (omega (arith, length-drop half (r ++ drop half x))) in
+          let d : y ≡ over = reply-lent _ _ _ q (fold-takes k pk) ∙ ap (folded window) next in
+          (λ i. a i ++ (d i ++ b i)) ∙ ap (λ w. framed ++ w) (append-nil over)
 
-    pub after_is : (v : List Float) (b2 : Bool) → reply b2 v ≡ reply_if (prefilter_takes (length u) f) (pre_filtered_end f u) u
-        → v ≡ tail_list (tail_after n e f (tail_of x))
-    unfolding pre_filtered_end prefilter_takes
-    after_is v b2 q =
-        let l : length u ≡ half + overlap = ap length joined_is ∙ omega (arith, length-append framed over, framed-size, over-size) in
-        let m : prefilter_takes (length u) f ≡ true = and_both (eqb (length u) (half + overlap)) (filter_fits f) (eq-eqb _ _ l) fits in
-        let a : take half u ≡ framed = ap (take half) joined_is ∙ take_at framed over half framed-size in
-        let b : drop half u ≡ over = ap (drop half) joined_is ∙ drop_at framed over half framed-size in
-        reply-lent _ _ _ q m ∙ (λ i. a i ++ pre_filtered f (a i) (b i)) ∙ sym tail-after
+      pub after_is : (v : List Float) (a : Bool)
+          → reply a v ≡ reply_if (prefilter_takes (length (put half k y (r ++ drop half x))) f) (pre_filtered_end f (put half k y (r ++ drop half x))) (put half k y (r ++ drop half x))
+          → reply a v ≡ reply_if (tail_takes (length x) n (length e) f) (tail_list (tail_after n e f (tail_of x))) x
+      unfolding pre_filtered_end
+      after_is v a h =
+          let u : List Float = put half k y (r ++ drop half x) in
+          let m : prefilter_takes (length u) f ≡ true =
+          prefilter-yes _ _ (ap length joined_is ∙ omega (arith, length-append framed over, framed-size, over-size)) fits in
+          let g : take half u ≡ framed = ap (take half) joined_is ∙ take_at framed over half framed-size in
+          let o : drop half u ≡ over = ap (drop half) joined_is ∙ drop_at framed over half framed-size in
+          passed-on _ _ _ _ _ _ _ _ h m (tail-takes _ n _ f lx ln le fits) ((λ i. g i ++ pre_filtered f (g i) (o i)) ∙ sym tail-after)

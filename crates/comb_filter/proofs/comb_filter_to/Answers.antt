@@ -5,19 +5,6 @@ use Rattle.loops.specs.Front.{tab-none, tab-more}
 use Rattle.reply.specs.Reply.{reply-yes, reply-no}
 use Rattle.comb_filter.proofs.Laws.{comb-no, comb-yes, within, filtered-all}
 use Rattle.comb_filter.proofs.comb_filter_to.Goals as goal
-use Rattle.comb_filter.proofs.comb_filter_to.Goals.{then-dst-ne-OVERLAP-via-then-dst-ne-OVERLAP, then-dst-ne-OVERLAP-via-else-dst-ne-OVERLAP+then-x-ne-TAIL}
-use Rattle.comb_filter.proofs.comb_filter_to.Goals.{then-dst-ne-OVERLAP-via-else-dst-ne-OVERLAP+else-x-ne-TAIL+then-not-filter_fits}
-
-pub returns-then-dst-ne-OVERLAP : goal.returns-then-dst-ne-OVERLAP
-returns-then-dst-ne-OVERLAP c =
-    reply-no _ _ _
-    (comb-no _ _ _
-    (elim c.then-dst-ne-OVERLAP.branch [
-      | then-dst-ne-OVERLAP-via-then-dst-ne-OVERLAP w ↦ inl w.if-dst-ne-OVERLAP.true
-      | then-dst-ne-OVERLAP-via-else-dst-ne-OVERLAP+then-x-ne-TAIL w ↦ inr (inl w.if-x-ne-TAIL.true)
-      | then-dst-ne-OVERLAP-via-else-dst-ne-OVERLAP+else-x-ne-TAIL+then-not-filter_fits w ↦ inr (inr (sym w.filter_fits.ensures ∙ w.if-not-filter_fits.true))
-    ]))
-    refl
 
 pub loop-i-init : goal.loop-i-init
 loop-i-init c = tab-none _ _

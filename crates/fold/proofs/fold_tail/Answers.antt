@@ -5,9 +5,6 @@ use Rattle.reply.specs.Reply.{reply-yes, reply-no}
 use Rattle.fold.proofs.Laws.{fold-no, fold-yes, folded-all}
 use Rattle.fold.proofs.fold_tail.Goals as goal
 
-pub returns-then-over-ne-OVERLAP : goal.returns-then-over-ne-OVERLAP
-returns-then-over-ne-OVERLAP c = reply-no _ _ _ (fold-no _ _ c.then-over-ne-OVERLAP.either) refl
-
 pub loop-k-init : goal.loop-k-init
 loop-k-init c = tab-none _ _
 

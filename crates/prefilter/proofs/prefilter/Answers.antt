@@ -5,17 +5,6 @@ use Rattle.comb_filter.proofs.Laws.{comb-yes}
 use Rattle.prefilter.specs.Prefilter.{skips}
 use Rattle.prefilter.proofs.Laws.{prefilter-no, prefilter-yes, pre_skip, pre-put}
 use Rattle.prefilter.proofs.prefilter.Goals as goal
-use Rattle.prefilter.proofs.prefilter.Goals.{then-t-ne-TAIL-via-then-t-ne-TAIL, then-t-ne-TAIL-via-else-t-ne-TAIL+then-not-filter_fits}
-
-pub returns-then-t-ne-TAIL : goal.returns-then-t-ne-TAIL
-returns-then-t-ne-TAIL c =
-    reply-no _ _ _
-    (prefilter-no _ _
-    (elim c.then-t-ne-TAIL.branch [
-      | then-t-ne-TAIL-via-then-t-ne-TAIL w ↦ inl w.if-t-ne-TAIL.true
-      | then-t-ne-TAIL-via-else-t-ne-TAIL+then-not-filter_fits w ↦ inr (sym w.filter_fits.ensures ∙ w.if-not-filter_fits.true)
-    ]))
-    refl
 
 pub returns-then-f : goal.returns-then-f
 unfolding skips

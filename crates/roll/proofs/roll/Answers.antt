@@ -1,11 +1,7 @@
 use Rattle.std.proofs.Common.{refl, le-leb}
-use Rattle.std.proofs.lemmas.Bool.{lt-leb}
-use Rattle.reply.specs.Reply.{reply-yes, reply-no}
+use Rattle.reply.specs.Reply.{reply-yes}
 use Rattle.roll.proofs.Laws.{roll-is}
 use Rattle.roll.proofs.roll.Goals as goal
-
-pub returns-then-new-n : goal.returns-then-new-n
-returns-then-new-n c = reply-no _ _ _ (lt-leb _ _ c.if-new-n.true) refl
 
 pub returns : goal.returns
 returns c =
