@@ -1,7 +1,6 @@
 -- Laws of plain variables that the proofs cite.
-use Rattle.std.proofs.Common.{◌≡◌, ap, ◌∙◌, true, false, List, ℕ, ◌-◌, ◌<◌, length, arith}
+use Rattle.std.proofs.Common.{◌≡◌, ap, ◌∙◌, true, List, ℕ, ◌-◌, ◌<◌, length, arith}
 use Prim.Native.Nat.{min}
-use mathlib.Core.Logic.{◌⊎◌}
 use Rattle.std.specs.Float.{nan}
 use Rattle.std.proofs.lemmas.Bool.Decides.{nat_tests}
 use Rattle.std.specs.Float.{Float}

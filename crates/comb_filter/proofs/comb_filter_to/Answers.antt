@@ -1,9 +1,8 @@
-use Rattle.std.proofs.Common.{refl, sym, ◌∙◌, arith}
-use mathlib.Core.Logic.{inl, inr}
+use Rattle.std.proofs.Common.{sym, arith}
 use Rattle.std.specs.Float.{nan}
 use Rattle.loops.specs.Front.{tab-none, tab-more}
-use Rattle.reply.specs.Reply.{reply-yes, reply-no}
-use Rattle.comb_filter.proofs.Laws.{comb-no, comb-yes, within, filtered-all}
+use Rattle.reply.specs.Reply.{reply-yes}
+use Rattle.comb_filter.proofs.Laws.{comb-yes, within, filtered-all}
 use Rattle.comb_filter.proofs.comb_filter_to.Goals as goal
 
 pub loop-i-init : goal.loop-i-init

@@ -1,8 +1,8 @@
-use Rattle.std.proofs.Common.{refl, arith}
+use Rattle.std.proofs.Common.{arith}
 use Rattle.std.specs.Float.{nan}
 use Rattle.loops.specs.Front.{tab-none, tab-more}
-use Rattle.reply.specs.Reply.{reply-yes, reply-no}
-use Rattle.fold.proofs.Laws.{fold-no, fold-yes, folded-all}
+use Rattle.reply.specs.Reply.{reply-yes}
+use Rattle.fold.proofs.Laws.{fold-yes, folded-all}
 use Rattle.fold.proofs.fold_tail.Goals as goal
 
 pub loop-k-init : goal.loop-k-init

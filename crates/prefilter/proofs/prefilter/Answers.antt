@@ -1,9 +1,8 @@
 use Rattle.std.proofs.Common.{◌≡◌, refl, sym, ◌∙◌, true, false}
-use mathlib.Core.Logic.{inl, inr}
-use Rattle.reply.specs.Reply.{reply-yes, reply-no, reply-lent, reply-taken}
+use Rattle.reply.specs.Reply.{reply-yes, reply-lent, reply-taken}
 use Rattle.comb_filter.proofs.Laws.{comb-yes}
 use Rattle.prefilter.specs.Prefilter.{skips}
-use Rattle.prefilter.proofs.Laws.{prefilter-no, prefilter-yes, pre_skip, pre-put}
+use Rattle.prefilter.proofs.Laws.{prefilter-yes, pre_skip, pre-put}
 use Rattle.prefilter.proofs.prefilter.Goals as goal
 
 pub returns-then-f : goal.returns-then-f
