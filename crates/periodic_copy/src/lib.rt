@@ -3,91 +3,68 @@
 #![tactic(auto)]
 
 ghost use Rattle.std.specs.Prelude.{◌≡◌, ◌≤◌, ◌<◌, length};
-ghost use Rattle.reply.specs.Reply.{reply, reply_if};
+ghost use Rattle.reply.specs.Reply.{replied, reply_if, value_or};
 ghost use Rattle.buffers.specs.Buffers.{zero32};
 ghost use Rattle.history.specs.History.{half};
 ghost use Rattle.periodic_copy.specs.Copy.{stepped, decayed, periodic_copy, copied_energy, cycle, cycle_takes};
 
 use history::HALF;
+use reply::Refused;
 
-// Whether a cycle was copied, and the energy of the history that it stands for.
+// Where in the excitation the copy stands, and what the samples are multiplied by from there on.
 #[derive(Clone, Copy)]
-pub struct Copied {
-    pub taken: bool,
-    pub energy: f32,
+struct Place {
+    at: usize,
+    decay: f32,
 }
 
-// The next position: one lag back where the excitation ends.
-fn next_position(p: usize, lag: usize) -> usize
-    requires { (p < half) × (lag ≤ half) }
-    ensures { result ≡ stepped lag p }
-{
-    if p + 1 == HALF { p + 1 - lag } else { p + 1 }
-}
-
-// The next decay: squared where the excitation ends.
-fn next_decay(p: usize, decay: f32) -> f32
-    requires { p < half }
-    ensures { result ≡ decayed p decay }
-{
-    if p + 1 == HALF { decay * decay } else { decay }
-}
-
-// Fills e with the repeated cycle; returns the energy of the history that it stands for.
-fn copy_each(e: &mut [f32], exc: &[f32; 1024], new: &[f32], lag: usize, decay: f32) -> f32
-    requires { (length new.now ≡ half) × (0 < lag) × (lag ≤ half) }
-    ensures { (e.new ≡ periodic_copy exc.now lag decay (length e.old))
-        × (result ≡ copied_energy new.now lag (length e.old)) }
-{
-    let n = e.len();
-    let mut pos = HALF - lag;
-    let mut d = decay;
-    let mut s1 = 0.0f32;
-    for i in 0..n {
-        e[i] = d * exc[pos];
-        let tmp = new[pos];
-        s1 = s1 + tmp * tmp;
-        d = next_decay(pos, d);
-        pos = next_position(pos, lag);
+impl Place {
+    // The next place: where the excitation ends, one lag back with the decay squared.
+    #[tactic(auto, using(std::proofs::lemmas::Bool::Decides::nat_tests), unfolding(crate::specs::Copy::stepped, crate::specs::Copy::decayed))]
+    fn next(self, lag: usize) -> Place
+        requires { (self.at < half) × (lag ≤ half) }
+        ensures { (result.at ≡ stepped lag self.at) × (result.decay ≡ decayed self.at self.decay) }
+    {
+        let at = self.at + 1;
+        if at == HALF {
+            Place {
+                at: at - lag,
+                decay: self.decay * self.decay,
+            }
+        } else {
+            Place { at, ..self }
+        }
     }
-    s1
 }
 
-// Fills e with the last cycle of exc, repeated, the decay squared at each wrap; the energy is of new at the same positions.
-// Refused, with energy +0 and e as lent: new not of 1,024 samples, a lag of 0 or above 1,024.
+// Fills e with the last cycle of exc, repeated, the decay squared at each wrap; returns the energy of new at the same positions.
+// Refused, with e as lent: new not of 1,024 samples, a lag of 0 or above 1,024.
+#[tactic(auto, using(std::proofs::lemmas::Bool::Decides::nat_tests), unfolding(reply::specs::Reply::reply_if, crate::specs::Copy::cycle_takes))]
 pub fn periodic_copy(
     e: &mut [f32],
     exc: &[f32; 1024],
     new: &[f32],
     lag: usize,
     decay: f32,
-) -> Copied
-    ensures { reply result.taken (cycle e.new result.energy)
+) -> Result<f32, Refused>
+    ensures { replied result (cycle e.new (value_or zero32 result))
         ≡ reply_if (cycle_takes (length new.now) lag)
         (cycle (periodic_copy exc.now lag decay (length e.old)) (copied_energy new.now lag (length e.old)))
         (cycle e.old zero32) }
 {
-    if new.len() != HALF {
-        return Copied {
-            taken: false,
-            energy: 0.0,
-        };
+    if new.len() != HALF || lag < 1 || HALF < lag {
+        return Err(Refused);
     }
-    if lag < 1 {
-        return Copied {
-            taken: false,
-            energy: 0.0,
-        };
+    let mut place = Place {
+        at: HALF - lag,
+        decay,
+    };
+    let mut energy = 0.0;
+    for sample in e.iter_mut() {
+        *sample = place.decay * exc[place.at];
+        let heard = new[place.at];
+        energy += heard * heard;
+        place = place.next(lag);
     }
-    if HALF < lag {
-        return Copied {
-            taken: false,
-            energy: 0.0,
-        };
-    }
-    let energy = copy_each(e, exc, new, lag, decay);
-    Copied {
-        taken: true,
-        energy,
-    }
+    Ok(energy)
 }

@@ -1,43 +1,36 @@
-use mathlib.Core.Path.{◌≡◌, refl}
-use mathlib.Core.Bool.{true, false}
-use Prim.Native.Nat.{ℕ}
-use lib.ListN.{length}
-use borrow.Author.Rules.{rules}
-use borrow.Author.Tests.{eq-eqb, ne_eqb, le-leb, lt-leb}
-use Rattle.history.specs.History.{half}
-use Rattle.reply.specs.Reply.{reply-yes, reply-no}
-use Rattle.periodic_copy.specs.Copy.{periodic_copy, copied_energy, cycle, cycle_takes}
+use Rattle.std.proofs.Common.{◌≡◌, sym, ◌∙◌, arith, ℕ, ◌+◌}
+use Rattle.std.specs.Float.{nan}
+use Rattle.loops.specs.Front.{tab-none, tab-more}
+use Rattle.loops.specs.Sum.{sum-none}
+use Rattle.reply.specs.Reply.{reply-yes}
+use Rattle.periodic_copy.specs.Copy.{position_at, position-none, position-more, decay_none, decay_more}
+use Rattle.periodic_copy.proofs.Positions.{position_in, cycle-takes, copied_sample, heard_more, whole_cycle}
 use Rattle.periodic_copy.proofs.periodic_copy.Goals as goal
 
-pub returns-then-new-ne-HALF : goal.returns-then-new-ne-HALF
-unfolding cycle_takes
-returns-then-new-ne-HALF c =
-    let a = c.args in
-    let p : cycle_takes (length a.new.now) a.lag ≡ false = simp (ne_eqb (length a.new.now) half c.if-new-ne-HALF.true) in
-    reply-no _ _ _ p refl
+pub loop-sample-init : goal.loop-sample-init
+loop-sample-init c = record {
+  within = omega arith;
+  at = position-none _;
+  decay = decay_none _ _;
+  copied = tab-none _ _;
+  heard = sym (sum-none _ _ _);
+}
 
-pub returns-then-lag-lt1 : goal.returns-then-lag-lt1
-unfolding cycle_takes
-returns-then-lag-lt1 c =
+pub loop-sample-preserved : goal.loop-sample-preserved
+loop-sample-preserved c =
     let a = c.args in
-    let p : cycle_takes (length a.new.now) a.lag ≡ false =
-    simp (eq-eqb (length a.new.now) half (search rules), lt-leb 1 a.lag (search rules)) in
-    reply-no _ _ _ p refl
-
-pub returns-then-lag-gt-HALF : goal.returns-then-lag-gt-HALF
-unfolding cycle_takes
-returns-then-lag-gt-HALF c =
-    let a = c.args in
-    let p : cycle_takes (length a.new.now) a.lag ≡ false =
-    simp (eq-eqb (length a.new.now) half (search rules), le-leb 1 a.lag (search rules), lt-leb a.lag half (search rules)) in
-    reply-no _ _ _ p refl
+    let h = c.loop-sample.invariant in
+    let i : ℕ = c.loop-sample.sample-index in
+    let at : c.next-place.result.at ≡ position_at a.lag (i + 1) = c.next-place.ensures.0 ∙ position-more _ _ _ h.at in
+    record {
+      within = omega (arith, position_in a.lag (i + 1) (omega arith));
+      at = at;
+      decay = c.next-place.ensures.1 ∙ decay_more _ _ _ _ _ h.at h.decay;
+      copied = tab-more _ nan _ _ _ h.copied _ (copied_sample a.exc.now a.new.now _ _ _ _ _ h.at h.decay) (omega arith);
+      heard = heard_more a.exc.now a.new.now _ _ _ _ _ h.at h.decay _ h.heard;
+    }
 
 pub returns : goal.returns
-unfolding cycle_takes
 returns c =
-    let a = c.args in
-    let p : cycle_takes (length a.new.now) a.lag ≡ true =
-    simp (eq-eqb (length a.new.now) half (search rules), le-leb 1 a.lag (search rules), le-leb a.lag half (search rules)) in
-    let q = c.copy_each-energy.ensures in
-    let n : ℕ = length a.e.now in
-    reply-yes _ (cycle (periodic_copy a.exc.now a.lag a.decay n) (copied_energy a.new.now a.lag n)) _ p (λ i. cycle (q.0 i) (q.1 i))
+    let h = c.loop-sample.invariant in
+    reply-yes _ _ _ (cycle-takes _ _ c.if-new-ne-HALF.false (omega arith) (omega arith)) (whole_cycle _ _ _ _ _ _ _ _ h.copied h.heard (omega arith))
