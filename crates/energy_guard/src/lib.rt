@@ -13,17 +13,19 @@ pub struct Guarded {
 }
 
 // s1 is the energy of the history that e stands for. A NaN energy is zeroed too.
+#[tactic(auto, unfolding(crate::specs::Guard::guarded, crate::specs::Guard::guarded_at, crate::specs::Guard::back_scale, crate::specs::Guard::muted, crate::specs::Guard::exceeds))]
 pub fn energy_guard(e: &mut [f32], s1: f32) -> Guarded
     ensures { (result.muted ≡ muted s1 (energy zero32 e.old)) × (e.new ≡ guarded s1 e.old) }
 {
     let s2 = buffers::energy(e, 0.0);
-    if s1 > 0.2 * s2 {
-        if s1 < s2 {
-            let ratio = float_root::sqrt_f32((s1 + 1.0) / (s2 + 1.0));
-            buffers::scale(e, ratio);
-        }
-        return Guarded { muted: false };
+    // Not `<=`: a NaN is not above either.
+    if !(s1 > 0.2 * s2) {
+        e.fill(0.0);
+        return Guarded { muted: true };
     }
-    buffers::fill(e, 0.0);
-    Guarded { muted: true }
+    if s1 < s2 {
+        let ratio = float_root::sqrt_f32((s1 + 1.0) / (s2 + 1.0));
+        buffers::scale(e, ratio);
+    }
+    Guarded { muted: false }
 }
