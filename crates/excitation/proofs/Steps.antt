@@ -7,12 +7,13 @@ use native.Mathlib.Omega.{arith}
 use lib.Dec.{eqb, leb, ltb}
 use lib.ListN.{length, get_or, take, drop}
 use lib.Seq.{length-take-le, get_or-append-add, get_or-drop}
-use lib.Ieee.{Float, nan, binary32, mul}
+use lib.Ieee.{Float, nan, binary32, mul, div}
+use Rattle.float_extremes.specs.Extremes.{min_of}
+use Rattle.float_root.specs.Root.{sqrt_of}
 use borrow.Author.Tests.{eqb-true, leb-true, eq-eqb, le-leb}
 use Rattle.loops.specs.Logic.{and-true}
 use Rattle.reply.specs.Reply.{reply, reply_if, reply-lent}
 use Rattle.buffers.specs.Buffers.{zero32}
-use Rattle.copying.specs.Copy.{copied, copied_all}
 use Rattle.history.specs.History.{half}
 use Rattle.loops.specs.Fold.{fold_to}
 use Rattle.loops.specs.Front.{tab-same}
@@ -80,15 +81,16 @@ module _ (a : ℕ) (x y : List Float) (s : Agree a x y) where
       tab-same _ _ n
       (λ i _. ap (mul binary32 (decay_at lag d i)) (s (position_at lag i) (omega (arith, position-ge lag i))))
 
--- a copy of the samples, filtered in place from a place on
-pub whitened_is : (from : ℕ) (lpc new mem x₀ x y : List Float) (t : Bool) → length lpc ≡ 24 → length mem ≡ 24 → length new ≡ half → length x₀ ≡ half
-    → x ≡ copied new x₀ → reply t y ≡ reply_if (fir_takes (length lpc) (length mem) (length x)) (celt_fir_from from lpc mem x) x
-    → y ≡ celt_fir_from from lpc mem new
-whitened_is from lpc new mem x₀ x y t l k m n q e =
-    let p : x ≡ new = q ∙ copied_all new x₀ (omega arith) in
-    let f : fir_takes (length lpc) (length mem) (length x) ≡ true =
-    simp (eq-eqb (length lpc) (length mem) (omega arith), le-leb (length lpc) 24 (omega arith), le-leb (length x) half (omega (arith, ap length p))) in
-    reply-lent _ _ _ e f ∙ ap (celt_fir_from from lpc mem) p
+-- the filter takes the newest samples, and what it leaves of them
+module _ (lpc new mem x : List Float) (l : length lpc ≡ 24) (k : length mem ≡ 24) (m : length new ≡ half) (p : x ≡ new) where
+  pub fir-fits : fir_takes (length lpc) (length mem) (length x) ≡ true
+  fir-fits =
+      let n : length x ≡ half = ap length p ∙ m in
+      simp (eq-eqb (length lpc) (length mem) (omega arith), le-leb (length lpc) 24 (omega arith), le-leb (length x) half (omega arith))
+
+  pub whitened_is : (from : ℕ) (y : List Float) (t : Bool)
+      → reply t y ≡ reply_if (fir_takes (length lpc) (length mem) (length x)) (celt_fir_from from lpc mem x) x → y ≡ celt_fir_from from lpc mem new
+  whitened_is from y t e = reply-lent _ _ _ e fir-fits ∙ ap (celt_fir_from from lpc mem) p
 
 -- the cycle, from an excitation worked out only from `from` on
 cycle-is : (m from : ℕ) (new lpc mem exc : List Float) (lag : ℕ) (d : Float) → length new ≡ half → lag ≤ half → from ≡ half - 2 * decay_period lag
@@ -123,3 +125,13 @@ pub repeat-is : (m from : ℕ) (new lpc mem exc e₀ e : List Float) (lag : ℕ)
     → reply t (cycle e s) ≡ reply_if (cycle_takes (length new) lag) (pitch_cycle m lpc mem new lag) (cycle e₀ zero32)
 repeat-is m from new lpc mem exc e₀ e lag d s t l q p1 p2 r =
     r ∙ reply-same _ _ _ _ (λ b. cycle-is m from new lpc mem exc lag d l (takes_lag (length new) lag b) q p1 p2)
+
+-- the decay, from the energies that a loop over a period leaves
+pub decay_is : (exc : List Float) (lag p i : ℕ) (e1 e2 low r : Float) → p ≡ decay_period lag → e1 ≡ period_energy exc (half - p) i
+    → e2 ≡ period_energy exc (half - 2 * p) i → i ≡ p → low ≡ min_of e1 e2 → r ≡ sqrt_of (div binary32 low e2) → r ≡ pitch_decay exc lag
+unfolding pitch_decay decay_of
+decay_is exc lag p i e1 e2 low r q h1 h2 l m s =
+    s ∙ ap (λ z. sqrt_of (div binary32 z e2)) m
+    ∙ (λ k. decay_of (h1 k) (h2 k))
+    ∙ ap (λ z. decay_of (period_energy exc (half - p) z) (period_energy exc (half - 2 * p) z)) l
+    ∙ ap (λ z. decay_of (period_energy exc (half - z) z) (period_energy exc (half - 2 * z) z)) q

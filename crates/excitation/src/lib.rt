@@ -3,53 +3,40 @@
 #![tactic(auto)]
 
 ghost use Rattle.std.specs.Prelude.{◌≡◌, length};
-ghost use Rattle.reply.specs.Reply.{reply, reply_if};
+ghost use Rattle.reply.specs.Reply.{replied, reply_if, value_or};
 ghost use Rattle.buffers.specs.Buffers.{zero32};
 ghost use Rattle.periodic_copy.specs.Copy.{cycle, cycle_takes};
 ghost use Rattle.excitation.specs.Cycle.{pitch_cycle};
 
 use history::HALF;
 use periodic_copy::periodic_copy;
+use plc_fir::celt_fir_from;
+use reply::Refused;
 
 mod decay;
 
-// Whether a cycle was repeated, and the energy of the history that it stands for.
-#[derive(Clone, Copy)]
-pub struct Repeated {
-    pub taken: bool,
-    pub energy: f32,
-}
-
-// Fills e with the last pitch cycle of new's excitation, by the predictor lpc and the samples before new, the most recent first.
-// Refused, with energy +0 and e as lent: new not of 1,024 samples, a lag of 0 or above 1,024.
+// Fills e with the last pitch cycle of new's excitation, by the predictor lpc and the samples before new, the most recent first;
+// returns the energy of the history that e stands for.
+// Refused, with e as lent: new not of 1,024 samples, a lag of 0 or above 1,024.
+#[tactic(auto, using(std::proofs::lemmas::Bool::Decides::nat_tests), unfolding(reply::specs::Reply::reply_if, periodic_copy::specs::Copy::cycle_takes))]
 pub fn repeat_cycle(
     e: &mut [f32],
     new: &[f32],
     lag: usize,
     lpc: &[f32; 24],
     mem: &[f32; 24],
-) -> Repeated
-    ensures { reply result.taken (cycle e.new result.energy)
+) -> Result<f32, Refused>
+    ensures { replied result (cycle e.new (value_or zero32 result))
         ≡ reply_if (cycle_takes (length new.now) lag)
         (pitch_cycle (length e.old) lpc.now mem.now new.now lag) (cycle e.old zero32) }
 {
-    // The copy asks this too; asked here, new fills all of exc, and the compiler leaves out the zeros.
-    if new.len() != HALF {
-        return Repeated {
-            taken: false,
-            energy: 0.0,
-        };
-    }
-    let mut exc = [0.0f32; HALF];
-    copying::copy(&mut exc, new);
+    let Ok(mut exc) = <[f32; HALF]>::try_from(new) else {
+        return Err(Refused);
+    };
     let period = decay::decay_period(lag);
     // Of the excitation, the last two periods are all that is read.
     let from = HALF - 2 * period;
-    plc_fir::celt_fir_from(&mut exc, from, lpc, mem);
+    celt_fir_from(&mut exc, from, lpc, mem)?;
     let decay = decay::pitch_decay(&exc, lag);
-    let c = periodic_copy(e, &exc, new, lag, decay);
-    Repeated {
-        taken: c.taken,
-        energy: c.energy,
-    }
+    periodic_copy(e, &exc, new, lag, decay)
 }
