@@ -1,12 +1,16 @@
 -- What the steps make together, over plain variables.
-use mathlib.Core.Path.{◌≡◌, ap, ◌∙◌}
+use mathlib.Core.Path.{◌≡◌, ap, ◌∙◌, sym}
 use mathlib.Core.Bool.{Bool, true, ◌&&◌}
 use mathlib.Core.List.{List, map}
-use Prim.Native.Nat.{ℕ, ◌≤◌, ◌<◌}
+use Prim.Native.Nat.{ℕ, ◌+◌, ◌-◌, ◌≤◌, ◌<◌}
 use native.Mathlib.Omega.{arith}
-use lib.ListN.{length}
+use Rattle.std.proofs.Common.{length, get_or, take, drop, reverse, length-drop, take_all, get_or-drop}
+use Rattle.std.proofs.lemmas.List.{get_or-reverse, length-reverse}
+use Rattle.std.proofs.lemmas.Bool.Decides.{nat_tests}
+use Rattle.loops.specs.Front.{tab, tab-list, tab-same}
+use Rattle.periodic_copy.proofs.Positions.{cycle-takes}
 use lib.Dec.{eqb, leb}
-use lib.Ieee.{Float}
+use lib.Ieee.{Float, nan}
 use borrow.Author.Tests.{eqb-true, leb-true, eq-eqb, le-leb}
 use Rattle.loops.specs.Logic.{and-true}
 use Rattle.reply.specs.Reply.{reply, reply_if, reply-lent}
@@ -18,7 +22,7 @@ use Rattle.plc_iir_pair.specs.Pair.{channels, iir_pair_takes}
 use Rattle.periodic_copy.specs.Copy.{copied_energy, cycle, cycle_takes}
 use Rattle.excitation.specs.Cycle.{pitch_cycle}
 use Rattle.energy_guard.specs.Guard.{guarded}
-use Rattle.extrapolate.specs.Extrapolate.{longest, recent, excitation, fade, faded_cycle, length-faded_cycle, extrapolated, extrapolate_takes, extrapolate_pair_takes}
+use Rattle.extrapolate.specs.Extrapolate.{order, longest, recent, excitation, fade, faded_cycle, length-faded_cycle, extrapolated, extrapolate_takes, extrapolate_pair_takes}
 
 -- what an accepted call may go by
 pub record Fits (m n lag : ℕ) : Type 0 where
@@ -40,26 +44,31 @@ takes-fits m n lag e =
       lag_high = leb-true lag half q.1;
     }
 
-pub pair_fits : (m0 m1 n0 n1 lag : ℕ) → extrapolate_pair_takes m0 m1 n0 n1 lag ≡ true → Fits m0 n0 lag × Fits m1 n1 lag × (m0 ≡ m1)
+pub pair-takes : (m0 m1 n0 n1 lag : ℕ) → m0 ≡ m1 → n0 ≡ n1 → extrapolate_takes m0 n0 lag ≡ true → extrapolate_pair_takes m0 m1 n0 n1 lag ≡ true
 unfolding extrapolate_pair_takes
-pair_fits m0 m1 n0 n1 lag e =
-    let p = and-true (eqb m0 m1) (eqb n0 n1 && extrapolate_takes m0 n0 lag) e in
-    let q = and-true (eqb n0 n1) (extrapolate_takes m0 n0 lag) p.1 in
-    let m : m0 ≡ m1 = eqb-true m0 m1 p.0 in
-    let n : n0 ≡ n1 = eqb-true n0 n1 q.0 in
-    let f : Fits m0 n0 lag = takes-fits m0 n0 lag q.1 in
-    (f, record { room = omega (arith, f.room); whole = omega (arith, f.whole); lag_low = f.lag_low; lag_high = f.lag_high }, m)
+pair-takes m0 m1 n0 n1 lag p q r = grind (arith, nat_tests)
+
+-- the newest 24 turned round
+pub recent_is : (new x y : List Float) (k : ℕ) → length new ≡ half → k ≡ length new - 1000 → x ≡ take k (drop 1000 new) → y ≡ reverse x → y ≡ recent new
+unfolding recent
+recent_is new x y k l q p r =
+    let z : List Float = drop 1000 new in
+    let n : length z ≡ order = omega (arith, length-drop 1000 new) in
+    r ∙ ap reverse (p ∙ take_all k z (omega (arith, length-drop 1000 new)))
+    ∙ sym (tab-list nan (reverse z))
+    ∙ ap (tab (λ (i : ℕ). get_or (reverse z) i nan)) (length-reverse z ∙ n)
+    ∙ tab-same _ _ order
+    (λ j h. get_or-reverse z j nan (omega (arith, n)) ∙ get_or-drop 1000 new _ nan
+    ∙ (let e : 1000 + (length z - 1 - j) ≡ half - 1 - j = omega (arith, n) in ap (λ w. get_or new w nan) e))
 
 -- the cycle that was repeated, faded
 pub faded_is : (m : ℕ) (new lpc mem e₀ e1 e2 : List Float) (lag : ℕ) (first t : Bool) (s g : Float) → length new ≡ half → 0 < lag → lag ≤ half
     → reply t (cycle e1 s) ≡ reply_if (cycle_takes (length new) lag) (pitch_cycle m lpc mem new lag) (cycle e₀ zero32)
     → g ≡ fade first → e2 ≡ map (times g) e1
     → (e2 ≡ faded_cycle m (celt_fir lpc mem new) lag first) × (s ≡ copied_energy new lag m)
-unfolding pitch_cycle faded_cycle cycle_takes
+unfolding pitch_cycle faded_cycle
 faded_is m new lpc mem e₀ e1 e2 lag first t s g l h k e p q =
-    let b : cycle_takes (length new) lag ≡ true =
-    simp (eq-eqb (length new) half l, le-leb 1 lag h, le-leb lag half k) in
-    let r : cycle e1 s ≡ pitch_cycle m lpc mem new lag = reply-lent _ _ _ e b in
+    let r : cycle e1 s ≡ pitch_cycle m lpc mem new lag = reply-lent _ _ _ e (cycle-takes (length new) lag l h k) in
     (q ∙ ap (λ z. map (times z) e1) p ∙ ap (λ z. map (times (fade first)) z.samples) r, ap (λ z. z.energy) r)
 
 -- the cycle is as long as it was asked for
@@ -76,11 +85,11 @@ module _ (m : ℕ) (new lpc mem x y z : List Float) (lag : ℕ) (first : Bool) (
       let y' : y ≡ celt_iir lpc (recent new) (faded_cycle m (celt_fir lpc (recent new) new) lag first) = e ∙ (λ i. celt_iir lpc (p i) (x' i)) in
       g ∙ (λ i. guarded (q.1 i) (y' i))
 
-  cycle-size : length x ≡ m
-  cycle-size = cycle-length m (celt_fir lpc mem new) x lag first q.0
+  pub iir-takes : m ≤ longest → iir_takes (length x) ≡ true
+  iir-takes h = le-leb (length x) longest (omega (arith, cycle-length m (celt_fir lpc mem new) x lag first q.0))
 
   pub extrapolate_is : (t : Bool) → m ≤ longest → reply t y ≡ reply_if (iir_takes (length x)) (celt_iir lpc mem x) x → z ≡ extrapolated m new lag first lpc
-  extrapolate_is t h e = guarded-is (reply-lent _ _ _ e (le-leb (length x) longest (omega (arith, cycle-size))))
+  extrapolate_is t h e = guarded-is (reply-lent _ _ _ e (iir-takes h))
 
 -- both channels, filtered side by side
 module _ (m : ℕ) (new0 new1 lpc0 lpc1 mem0 mem1 x0 x1 y0 y1 z0 z1 : List Float) (lag : ℕ) (first : Bool) (s0 s1 : Float)
@@ -88,16 +97,18 @@ module _ (m : ℕ) (new0 new1 lpc0 lpc1 mem0 mem1 x0 x1 y0 y1 z0 z1 : List Float
     (q0 : (x0 ≡ faded_cycle m (celt_fir lpc0 mem0 new0) lag first) × (s0 ≡ copied_energy new0 lag m))
     (q1 : (x1 ≡ faded_cycle n (celt_fir lpc1 mem1 new1) lag first) × (s1 ≡ copied_energy new1 lag n))
     (g0 : z0 ≡ guarded s0 y0) (g1 : z1 ≡ guarded s1 y1) where
+  pub iir-pair-takes : m ≤ longest → iir_pair_takes (length x0) (length x1) ≡ true
+  iir-pair-takes h =
+      let l0 : length x0 ≡ m = cycle-length m (celt_fir lpc0 mem0 new0) x0 lag first q0.0 in
+      let l1 : length x1 ≡ n = cycle-length n (celt_fir lpc1 mem1 new1) x1 lag first q1.0 in
+      simp (eq-eqb (length x0) (length x1) (omega arith), le-leb (length x0) longest (omega arith))
+
   pub pair_is : (t : Bool) → m ≤ longest
       → reply t (channels y0 y1)
       ≡ reply_if (iir_pair_takes (length x0) (length x1)) (channels (celt_iir lpc0 mem0 x0) (celt_iir lpc1 mem1 x1)) (channels x0 x1)
       → channels z0 z1 ≡ channels (extrapolated m new0 lag first lpc0) (extrapolated n new1 lag first lpc1)
   pair_is t h e =
-      let l0 : length x0 ≡ m = cycle-length m (celt_fir lpc0 mem0 new0) x0 lag first q0.0 in
-      let l1 : length x1 ≡ n = cycle-length n (celt_fir lpc1 mem1 new1) x1 lag first q1.0 in
-      let b : iir_pair_takes (length x0) (length x1) ≡ true =
-      simp (eq-eqb (length x0) (length x1) (omega arith), le-leb (length x0) longest (omega arith)) in
-      let r : channels y0 y1 ≡ channels (celt_iir lpc0 mem0 x0) (celt_iir lpc1 mem1 x1) = reply-lent _ _ _ e b in
+      let r : channels y0 y1 ≡ channels (celt_iir lpc0 mem0 x0) (celt_iir lpc1 mem1 x1) = reply-lent _ _ _ e (iir-pair-takes h) in
       let a0 = guarded-is m new0 lpc0 mem0 x0 y0 z0 lag first s0 p0 q0 g0 (ap (λ w. w.first) r) in
       let a1 = guarded-is n new1 lpc1 mem1 x1 y1 z1 lag first s1 p1 q1 g1 (ap (λ w. w.second) r) in
       λ i. channels (a0 i) (a1 i)

@@ -3,7 +3,7 @@
 #![tactic(auto)]
 
 ghost use Rattle.std.specs.Prelude.{◌≡◌, ◌≤◌, ◌<◌, length};
-ghost use Rattle.reply.specs.Reply.{reply, reply_if};
+ghost use Rattle.reply.specs.Reply.{replied, reply_if};
 ghost use Rattle.history.specs.History.{half};
 ghost use Rattle.plc_fir.specs.Fir.{celt_fir};
 ghost use Rattle.plc_iir_pair.specs.Pair.{channels};
@@ -11,19 +11,18 @@ ghost use Rattle.periodic_copy.specs.Copy.{copied_energy};
 ghost use Rattle.extrapolate.specs.Extrapolate.{fade, recent, faded_cycle, extrapolated, extrapolate_takes, extrapolate_pair_takes};
 
 use energy_guard::energy_guard;
-use history::HALF;
+use excitation::repeat_cycle;
+use history::{EXTRA, HALF, LONGEST_FRAME};
+use plc_iir::celt_iir_inplace;
+use plc_iir_pair::celt_iir_pair;
+use reply::Refused;
 
 // How many coefficients a predictor has.
 pub const ORDER: usize = plc_pad::ORDER;
 
-// The longest frame and twice the overlap.
-pub const LONGEST: usize = 1200;
+pub const LONGEST: usize = LONGEST_FRAME + EXTRA;
 
-#[derive(Clone, Copy)]
-pub struct Extrapolated {
-    pub taken: bool,
-}
-
+#[tactic(auto, unfolding(crate::specs::Extrapolate::fade))]
 fn fade_of(first: bool) -> f32
     ensures { result ≡ fade first }
 {
@@ -35,10 +34,9 @@ fn most_recent(new: &[f32]) -> [f32; 24]
     requires { length new.now ≡ half }
     ensures { result ≡ recent new.now }
 {
-    let mut mem = [0.0f32; ORDER];
-    for j in 0..ORDER {
-        mem[j] = new[HALF - 1 - j];
-    }
+    let mut mem = [0.0; ORDER];
+    mem.copy_from_slice(&new[HALF - ORDER..]);
+    mem.reverse();
     mem
 }
 
@@ -55,25 +53,16 @@ fn faded_cycle(
     ensures { (e.new ≡ faded_cycle (length e.old) (celt_fir lpc.now mem.now new.now) lag first)
         × (result ≡ copied_energy new.now lag (length e.old)) }
 {
-    let cycle = excitation::repeat_cycle(e, new, lag, lpc, mem);
-    let g = fade_of(first);
-    buffers::scale(e, g);
-    cycle.energy
+    let energy = repeat_cycle(e, new, lag, lpc, mem).unwrap();
+    buffers::scale(e, fade_of(first));
+    energy
 }
 
+#[tactic(auto, using(std::proofs::lemmas::Bool::Decides::nat_tests), unfolding(crate::specs::Extrapolate::extrapolate_takes, periodic_copy::specs::Copy::cycle_takes))]
 fn takes(m: usize, n: usize, lag: usize) -> bool
     ensures { result ≡ extrapolate_takes m n lag }
 {
-    if LONGEST < m {
-        return false;
-    }
-    if n != HALF {
-        return false;
-    }
-    if lag < 1 {
-        return false;
-    }
-    lag <= HALF
+    m <= LONGEST && n == HALF && (1..=HALF).contains(&lag)
 }
 
 // Fills e with what follows new. Refused, with e as lent: e above 1,200 samples, new not of 1,024, a lag of 0 or above 1,024.
@@ -83,35 +72,24 @@ pub fn extrapolate(
     lag: usize,
     first: bool,
     lpc: &[f32; 24],
-) -> Extrapolated
-    ensures { reply result.taken e.new
+) -> Result<(), Refused>
+    ensures { replied result e.new
         ≡ reply_if (extrapolate_takes (length e.old) (length new.now) lag)
         (extrapolated (length e.old) new.now lag first lpc.now) e.old }
 {
     if !takes(e.len(), new.len(), lag) {
-        return Extrapolated { taken: false };
+        return Err(Refused);
     }
     let mem = most_recent(new);
     let s1 = faded_cycle(e, new, lag, first, lpc, &mem);
-    plc_iir::celt_iir_inplace(e, lpc, &mem);
+    celt_iir_inplace(e, lpc, &mem)?;
     energy_guard(e, s1);
-    Extrapolated { taken: true }
-}
-
-fn pair_takes(m0: usize, m1: usize, n0: usize, n1: usize, lag: usize) -> bool
-    ensures { result ≡ extrapolate_pair_takes m0 m1 n0 n1 lag }
-{
-    if m0 != m1 {
-        return false;
-    }
-    if n0 != n1 {
-        return false;
-    }
-    takes(m0, n0, lag)
+    Ok(())
 }
 
 // Both channels: their all-pole filters run side by side, in the time of one.
 // Refused as a single channel is, and where the two differ in length.
+#[tactic(auto, using(std::proofs::lemmas::Bool::Decides::nat_tests), unfolding(reply::specs::Reply::reply_if, crate::specs::Extrapolate::extrapolate_pair_takes))]
 pub fn extrapolate_pair(
     e0: &mut [f32],
     e1: &mut [f32],
@@ -121,22 +99,22 @@ pub fn extrapolate_pair(
     first: bool,
     lpc0: &[f32; 24],
     lpc1: &[f32; 24],
-) -> Extrapolated
-    ensures { reply result.taken (channels e0.new e1.new)
+) -> Result<(), Refused>
+    ensures { replied result (channels e0.new e1.new)
         ≡ reply_if (extrapolate_pair_takes (length e0.old) (length e1.old) (length new0.now) (length new1.now) lag)
         (channels (extrapolated (length e0.old) new0.now lag first lpc0.now)
         (extrapolated (length e1.old) new1.now lag first lpc1.now))
         (channels e0.old e1.old) }
 {
-    if !pair_takes(e0.len(), e1.len(), new0.len(), new1.len(), lag) {
-        return Extrapolated { taken: false };
+    if e0.len() != e1.len() || new0.len() != new1.len() || !takes(e0.len(), new0.len(), lag) {
+        return Err(Refused);
     }
     let mem0 = most_recent(new0);
     let mem1 = most_recent(new1);
     let s0 = faded_cycle(e0, new0, lag, first, lpc0, &mem0);
     let s1 = faded_cycle(e1, new1, lag, first, lpc1, &mem1);
-    plc_iir_pair::celt_iir_pair(e0, e1, lpc0, lpc1, &mem0, &mem1);
+    celt_iir_pair(e0, e1, lpc0, lpc1, &mem0, &mem1)?;
     energy_guard(e0, s0);
     energy_guard(e1, s1);
-    Extrapolated { taken: true }
+    Ok(())
 }
