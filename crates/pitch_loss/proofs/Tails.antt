@@ -5,16 +5,12 @@ use mathlib.Core.List.{List, ◌++◌}
 use Prim.Native.Nat.{ℕ, ◌+◌, ◌-◌, ◌*◌, ◌≤◌}
 use native.Mathlib.Omega.{arith}
 use lib.Dec.{eqb, leb}
-use lib.ListN.{length, take, drop, length-append, length-drop, take-append-drop}
+use lib.ListN.{length, take, drop, length-drop}
 use lib.Seq.{length-take-le, take_all, take_at}
 use lib.Ieee.{Float}
-use mir.Syntax.{w64}
-use mir.Val as Val
-use borrow.Author.Rules.{Fits-under}
 use borrow.Author.Tests.{eqb-true, leb-true, eq-eqb, le-leb}
-use Rattle.copying.specs.Copy.{copied, copied_all}
-use Rattle.loops.specs.Logic.{and-true, and_both, cond_either}
-use Rattle.loops.specs.Part.{put, length-put}
+use Rattle.loops.specs.Logic.{and-true, cond_either}
+use Rattle.loops.specs.Part.{put}
 use Rattle.reply.specs.Reply.{reply, reply_if, reply-lent}
 use Rattle.history.specs.History.{half, overlap, channel, whole, Tail, Tails, tail_at, tails, with_tails, tail_list, tail_of}
 use Rattle.history.specs.History as History
@@ -27,6 +23,7 @@ use Rattle.settings.specs.Settings.{frame, stereo, check_settings, block_factor}
 use Rattle.settings.proofs.Passed.{frame_is, frame-high}
 use Rattle.state.specs.Refusal.{lag_least, lag_most}
 use Rattle.periodic_copy.specs.Copy.{cycle_takes}
+use Rattle.extrapolate.proofs.Steps.{pair-takes}
 use Rattle.extrapolate.specs.Extrapolate.{order, longest, extrapolated, length-extrapolated, extrapolate_takes, extrapolate_pair_takes}
 use Rattle.take_in.specs.TakeIn.{longest_frame, extra, tail_after, tail_takes}
 use Rattle.take_in.proofs.Frame.{after-sized, tail-takes}
@@ -51,20 +48,7 @@ pitches_sized two n lag first c f t h z = record {
 pub part_count : (a n : ℕ) → a + n - a ≡ n
 part_count a n = omega arith
 
--- ---- the coefficients
-
--- k of them copied from `from` on
-pub coefficients_are : (from k : ℕ) (p z x : List Float) → k ≡ order → from ≤ order → length p ≡ order + order → length z ≡ order
-    → x ≡ copied (take k (drop from p)) z → x ≡ take order (drop from p)
-coefficients_are from k p z x e l lp lz q =
-    let w : length (take k (drop from p)) ≡ k = length-take-le k (drop from p) (omega (arith, length-drop from p)) in
-    q ∙ copied_all (take k (drop from p)) z (w ∙ e ∙ sym lz) ∙ ap (λ j. take j (drop from p)) e
-
 -- ---- the buffers
-
--- a frame and what is extrapolated beyond it
-pub frame-word : (n : ℕ) → n ≤ longest_frame → Val.Fits w64 (n + extra)
-frame-word n l = Fits-under w64 (n + extra) 1201 (omega arith) tt
 
 pub frame-room : (n k : ℕ) → n ≤ longest_frame → k ≡ longest → n + extra ≤ k
 frame-room n k l p = omega arith
@@ -72,18 +56,10 @@ frame-room n k l p = omega arith
 pub front-size : (n : ℕ) (e : List Float) → n ≤ longest_frame → length e ≡ longest → length (take (n + extra) e) ≡ n + extra
 front-size n e l p = length-take-le (n + extra) e (frame-room n (length e) l p)
 
--- a buffer whose front came back
-pub front_kept : (m : ℕ) (e e₀ : List Float) → length e ≡ length (take m e₀) → length (e ++ drop m e₀) ≡ length e₀
-front_kept m e e₀ p = length-append e (drop m e₀) ∙ ap (λ k. k + length (drop m e₀)) p ∙ sym (length-append (take m e₀) (drop m e₀)) ∙ ap length (take-append-drop m e₀)
-
 front-is : (m : ℕ) (e x z : List Float) → e ≡ x → length x ≡ m → take m (e ++ z) ≡ x
 front-is m e x z p l = ap (λ w. take m (w ++ z)) p ∙ take_at x z m l
 
 -- ---- a channel continued
-
--- a part that ends at e stands in a whole history
-pub ends-within : (e k : ℕ) → e ≤ whole → k ≡ whole → e ≤ k
-ends-within e k l p = omega arith
 
 module _ (n lag : ℕ) (first : Bool) (h c : List Float) (ln : n ≤ longest_frame) (lh : length h ≡ whole) (low : lag_least ≤ lag) (high : lag ≤ lag_most) where
   new-first : take half (drop half h) ≡ (tails h).first.new
@@ -111,14 +87,24 @@ module _ (n lag : ℕ) (first : Bool) (h c : List Float) (ln : n ≤ longest_fra
       front-is (n + extra) e (extrapolated (n + extra) new lag first d) (drop (n + extra) e₀) (g ∙ (λ i. extrapolated (front-size n e₀ ln l i) (p i) lag first (q i)))
       (length-extrapolated (n + extra) new lag first d)
 
+  pub one-takes : (e₀ : List Float) → length e₀ ≡ longest → extrapolate_takes (length (take (n + extra) e₀)) (length (take half (drop half h))) lag ≡ true
+  one-takes e₀ l = taken _ _ (front-size n e₀ ln l) first-size
+
   pub one_follows : (e₀ e c₀ : List Float) (b : Bool) → length e₀ ≡ longest → c₀ ≡ take order c
       → reply b e
       ≡ reply_if (extrapolate_takes (length (take (n + extra) e₀)) (length (take half (drop half h))) lag)
       (extrapolated (length (take (n + extra) e₀)) (take half (drop half h)) lag first c₀) (take (n + extra) e₀)
       → take (n + extra) (e ++ drop (n + extra) e₀) ≡ extrapolated (n + extra) (tails h).first.new lag first (take order c)
   one_follows e₀ e c₀ b l q r =
-      let g = reply-lent _ _ _ r (taken _ _ (front-size n e₀ ln l) first-size) in
+      let g = reply-lent _ _ _ r (one-takes e₀ l) in
       follows e e₀ _ _ c₀ _ g l new-first q
+
+  pub both-take : (e₀ d₀ : List Float) → length e₀ ≡ longest → length d₀ ≡ longest
+      → extrapolate_pair_takes (length (take (n + extra) e₀)) (length (take (n + extra) d₀)) (length (take half (drop half h)))
+      (length (take half (drop (channel + half) h))) lag
+      ≡ true
+  both-take e₀ d₀ l m =
+      pair-takes _ _ _ _ lag (front-size n e₀ ln l ∙ sym (front-size n d₀ ln m)) (first-size ∙ sym second-size) (one-takes e₀ l)
 
   pub both_follow : (e₀ d₀ e d c₀ k₀ : List Float) (b : Bool) → length c ≡ order + order → length e₀ ≡ longest → length d₀ ≡ longest
       → c₀ ≡ take order c → k₀ ≡ take order (drop order c)
@@ -130,13 +116,8 @@ module _ (n lag : ℕ) (first : Bool) (h c : List Float) (ln : n ≤ longest_fra
       (channels (take (n + extra) e₀) (take (n + extra) d₀))
       → (take (n + extra) (e ++ drop (n + extra) e₀) ≡ extrapolated (n + extra) (tails h).first.new lag first (take order c))
       × (take (n + extra) (d ++ drop (n + extra) d₀) ≡ extrapolated (n + extra) (tails h).second.new lag first (drop order c))
-  unfolding extrapolate_pair_takes
   both_follow e₀ d₀ e d c₀ k₀ b lc l m p q r =
-      let s : length (take (n + extra) e₀) ≡ n + extra = front-size n e₀ ln l in
-      let t : extrapolate_pair_takes (length (take (n + extra) e₀)) (length (take (n + extra) d₀)) (length (take half (drop half h))) (length (take half (drop (channel + half) h))) lag ≡ true =
-      and_both (eqb (length (take (n + extra) e₀)) (length (take (n + extra) d₀))) _ (eq-eqb _ _ (s ∙ sym (front-size n d₀ ln m)))
-      (and_both (eqb (length (take half (drop half h))) (length (take half (drop (channel + half) h)))) _ (eq-eqb _ _ (first-size ∙ sym second-size)) (taken _ _ s first-size)) in
-      let g = reply-lent _ _ _ r t in (
+      let g = reply-lent _ _ _ r (both-take e₀ d₀ l m) in (
         follows e e₀ _ _ c₀ _ (ap (λ v. v.first) g) l new-first p,
         follows d d₀ _ _ k₀ _ (ap (λ v. v.second) g) m new-second (q ∙ take_all order (drop order c) (omega (arith, length-drop order c))),
       )
@@ -149,22 +130,19 @@ tail-room at k p l = omega arith
 part-size : (at : ℕ) (h : List Float) → at + (half + overlap) ≤ length h → length (take (half + overlap) (drop at h)) ≡ half + overlap
 part-size at h l = length-take-le (half + overlap) (drop at h) (omega (arith, length-drop at h))
 
--- k samples lent from `at` on
-pub lent-kept : (at k : ℕ) (h y : List Float) → k ≡ half + overlap → at + (half + overlap) ≤ length h → length y ≡ length (take k (drop at h)) → length (put at k y h) ≡ length h
-lent-kept at k h y p l q =
-    let s : at + k ≤ length h = omega arith in
-    length-put at k y h (q ∙ length-take-le k (drop at h) (omega (arith, length-drop at h))) s
+module _ (at k n : ℕ) (f : Filter) (h e : List Float) (p : k ≡ half + overlap) (l : at + (half + overlap) ≤ length h) (ln : n ≤ longest_frame) (le : length e ≡ longest)
+    (fits : filter_fits f ≡ true) where
+  pub part-takes : tail_takes (length (take k (drop at h))) n (length (take (n + extra) e)) f ≡ true
+  part-takes = tail-takes _ n _ f (ap (λ j. length (take j (drop at h))) p ∙ part-size at h l) ln (front-size n e ln le) fits
 
-pub taken_in : (at k n : ℕ) (f : Filter) (h e y : List Float) (b : Bool) → k ≡ half + overlap → at + (half + overlap) ≤ length h → n ≤ longest_frame → length e ≡ longest
-    → filter_fits f ≡ true
-    → reply b y
-    ≡ reply_if (tail_takes (length (take k (drop at h))) n (length (take (n + extra) e)) f) (tail_list (tail_after n (take (n + extra) e) f (tail_of (take k (drop at h))))) (take k (drop at h))
-    → put at k y h ≡ put at (half + overlap) (tail_list (tail_after n (take (n + extra) e) f (tail_of (take (half + overlap) (drop at h))))) h
-taken_in at k n f h e y b p l ln le fits r =
-    let t : tail_takes (length (take k (drop at h))) n (length (take (n + extra) e)) f ≡ true =
-    tail-takes _ n _ f (ap (λ j. length (take j (drop at h))) p ∙ part-size at h l) ln (front-size n e ln le) fits in
-    let g : y ≡ tail_list (tail_after n (take (n + extra) e) f (tail_of (take k (drop at h)))) = reply-lent _ _ _ r t in
-    ap (λ w. put at k w h) g ∙ ap (λ j. put at j (tail_list (tail_after n (take (n + extra) e) f (tail_of (take j (drop at h))))) h) p
+  pub taken_in : (y : List Float) (b : Bool)
+      → reply b y
+      ≡ reply_if (tail_takes (length (take k (drop at h))) n (length (take (n + extra) e)) f)
+      (tail_list (tail_after n (take (n + extra) e) f (tail_of (take k (drop at h))))) (take k (drop at h))
+      → put at k y h ≡ put at (half + overlap) (tail_list (tail_after n (take (n + extra) e) f (tail_of (take (half + overlap) (drop at h))))) h
+  taken_in y b r =
+      let g : y ≡ tail_list (tail_after n (take (n + extra) e) f (tail_of (take k (drop at h)))) = reply-lent _ _ _ r part-takes in
+      ap (λ w. put at k w h) g ∙ ap (λ j. put at j (tail_list (tail_after n (take (n + extra) e) f (tail_of (take j (drop at h))))) h) p
 
 -- ---- the tails of a history
 

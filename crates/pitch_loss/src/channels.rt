@@ -8,16 +8,11 @@ ghost use Rattle.extrapolate.specs.Extrapolate.{order, longest, extrapolated};
 ghost use Rattle.take_in.specs.TakeIn.{longest_frame, extra, tail_after};
 ghost use Rattle.pitch_loss.specs.PitchLoss.{pitch_tails};
 
-use extrapolate::{LONGEST, ORDER};
-use history::{CHANNEL, HALF, OVERLAP, SAMPLES};
+use crate::Pitch;
+use extrapolate::{LONGEST, ORDER, extrapolate, extrapolate_pair};
+use history::{CHANNEL, EXTRA, HALF, SAMPLES, TAIL};
 use post_filter::Filter;
 use take_in::take_in;
-
-// The newest 1,024 and the overlap.
-const TAIL: usize = HALF + OVERLAP;
-
-// What is extrapolated beyond a frame.
-const EXTRA: usize = 2 * OVERLAP;
 
 // Where channel 1's newest samples begin, and where they end.
 const SECOND: usize = CHANNEL + HALF;
@@ -29,38 +24,31 @@ fn coefficients(predictor: [f32; 48], from: usize) -> [f32; 24]
     requires { from ≤ order }
     ensures { result ≡ take order (drop from predictor) }
 {
-    let mut c = [0.0f32; ORDER];
-    copying::copy(&mut c, &predictor[from..from + ORDER]);
-    c
+    predictor[from..from + ORDER].try_into().unwrap()
 }
 
 // What follows each channel, their filters side by side: n samples and 240 more, to the front of e0 and of e1.
-fn continue_both(
-    e0: &mut [f32],
-    e1: &mut [f32],
-    n: usize,
-    h: &[f32],
-    lag: usize,
-    first: bool,
-    predictor: [f32; 48],
-)
-    requires { (length e0.old ≡ longest) × (length e1.old ≡ longest) × (n ≤ longest_frame) × (length h.now ≡ whole) × (lag_least ≤ lag) × (lag ≤ lag_most) }
-    ensures { (take (n + extra) e0.new ≡ extrapolated (n + extra) (tails h.now).first.new lag first (take order predictor))
-        × (take (n + extra) e1.new ≡ extrapolated (n + extra) (tails h.now).second.new lag first (drop order predictor)) }
+fn continue_both(e0: &mut [f32], e1: &mut [f32], n: usize, h: &[f32], pitch: Pitch)
+    requires { (length e0.old ≡ longest) × (length e1.old ≡ longest) × (n ≤ longest_frame) × (length h.now ≡ whole) × (lag_least ≤ pitch.lag) × (pitch.lag ≤ lag_most) }
+    ensures { (take (n + extra) e0.new
+        ≡ extrapolated (n + extra) (tails h.now).first.new pitch.lag pitch.first (take order pitch.predictor))
+        × (take (n + extra) e1.new
+        ≡ extrapolated (n + extra) (tails h.now).second.new pitch.lag pitch.first (drop order pitch.predictor)) }
 {
-    let lpc0 = coefficients(predictor, 0);
-    let lpc1 = coefficients(predictor, ORDER);
+    let lpc0 = coefficients(pitch.predictor, 0);
+    let lpc1 = coefficients(pitch.predictor, ORDER);
     let m = n + EXTRA;
-    extrapolate::extrapolate_pair(
+    extrapolate_pair(
         &mut e0[..m],
         &mut e1[..m],
         &h[HALF..SAMPLES],
         &h[SECOND..END],
-        lag,
-        first,
+        pitch.lag as usize,
+        pitch.first,
         &lpc0,
         &lpc1,
-    );
+    )
+    .unwrap();
 }
 
 // The front of e comes in at the end of the channel whose newest 1,024 begin at `at`.
@@ -71,47 +59,38 @@ fn take_at(h: &mut [f32], at: usize, n: usize, e: &[f32], filter: Filter)
         (tail_list (tail_after n (take (n + extra) e.now) filter (tail_of (take (half + overlap) (drop at h.old)))))
         h.old }
 {
-    take_in(&mut h[at..at + TAIL], n, &e[..n + EXTRA], filter);
+    take_in(&mut h[at..at + TAIL], n, &e[..n + EXTRA], filter).unwrap();
 }
 
 // Mono runs the single filter, stereo the pair.
-pub(crate) fn conceal_mono(
-    n: usize,
-    history: &mut [f32],
-    lag: usize,
-    first: bool,
-    predictor: [f32; 48],
-    filter: Filter,
-)
-    requires { (length history.old ≡ whole) × (n ≤ longest_frame) × (lag_least ≤ lag) × (lag ≤ lag_most) × (filter_fits filter ≡ true) }
-    ensures { history.new ≡ with_tails history.old (pitch_tails false n lag first predictor filter (tails history.old)) }
+pub(crate) fn conceal_mono(n: usize, history: &mut [f32], pitch: Pitch)
+    requires { (length history.old ≡ whole) × (n ≤ longest_frame) × (lag_least ≤ pitch.lag) × (pitch.lag ≤ lag_most) × (filter_fits pitch.filter ≡ true) }
+    ensures { history.new
+        ≡ with_tails history.old
+        (pitch_tails false n pitch.lag pitch.first pitch.predictor pitch.filter (tails history.old)) }
 {
-    let lpc = coefficients(predictor, 0);
+    let lpc = coefficients(pitch.predictor, 0);
     let mut e = [0.0f32; LONGEST];
-    extrapolate::extrapolate(
+    extrapolate(
         &mut e[..n + EXTRA],
         &history[HALF..SAMPLES],
-        lag,
-        first,
+        pitch.lag as usize,
+        pitch.first,
         &lpc,
-    );
-    take_at(history, HALF, n, &e, filter);
+    )
+    .unwrap();
+    take_at(history, HALF, n, &e, pitch.filter);
 }
 
-pub(crate) fn conceal_stereo(
-    n: usize,
-    history: &mut [f32],
-    lag: usize,
-    first: bool,
-    predictor: [f32; 48],
-    filter: Filter,
-)
-    requires { (length history.old ≡ whole) × (n ≤ longest_frame) × (lag_least ≤ lag) × (lag ≤ lag_most) × (filter_fits filter ≡ true) }
-    ensures { history.new ≡ with_tails history.old (pitch_tails true n lag first predictor filter (tails history.old)) }
+pub(crate) fn conceal_stereo(n: usize, history: &mut [f32], pitch: Pitch)
+    requires { (length history.old ≡ whole) × (n ≤ longest_frame) × (lag_least ≤ pitch.lag) × (pitch.lag ≤ lag_most) × (filter_fits pitch.filter ≡ true) }
+    ensures { history.new
+        ≡ with_tails history.old
+        (pitch_tails true n pitch.lag pitch.first pitch.predictor pitch.filter (tails history.old)) }
 {
     let mut e0 = [0.0f32; LONGEST];
     let mut e1 = [0.0f32; LONGEST];
-    continue_both(&mut e0, &mut e1, n, history, lag, first, predictor);
-    take_at(history, HALF, n, &e0, filter);
-    take_at(history, SECOND, n, &e1, filter);
+    continue_both(&mut e0, &mut e1, n, history, pitch);
+    take_at(history, HALF, n, &e0, pitch.filter);
+    take_at(history, SECOND, n, &e1, pitch.filter);
 }
