@@ -1,11 +1,12 @@
 -- The answer's bytes, part by part.
-use mathlib.Core.Path.{◌≡◌, ap, ◌∙◌, sym, subst}
-use mathlib.Core.Bool.{true, false, cond}
+use mathlib.Core.Path.{◌≡◌, refl, ap, ◌∙◌, sym, subst}
+use mathlib.Core.Bool.{Bool, true, false, cond}
 use mathlib.Core.List.{List, [], ◌∷◌, ◌++◌}
 use Prim.Native.Nat.{ℕ, ◌*◌, ◌≤◌, ◌<◌}
 use native.Mathlib.Omega.{arith}
 use lib.ListN.{length, take, drop, length-append}
-use lib.Seq.{take_at}
+use lib.Seq.{take_at, take-length}
+use Rattle.std.specs.Prelude.{Result, Ok, Err}
 use lib.Dec.{leb, eqb}
 use lib.Ieee.{Float}
 use borrow.Author.Tests.{eq-eqb, ne_eqb, le-leb, lt-leb}
@@ -13,8 +14,12 @@ use Rattle.loops.specs.Front.{front}
 use Rattle.loops.specs.Logic.{and_both, and_first, and_second, cond_either}
 use Rattle.loops.specs.Pick.{pick_true, pick-false}
 use Rattle.history.specs.History.{whole}
+use Rattle.reply.specs.declared.Refused.{Refused}
+use Rattle.reply.specs.Reply.{Reply, reply, reply_if, replied, value_or, reply-lent, reply-taken}
+use Rattle.settings.specs.declared.Refusal.{Refusal}
 use Rattle.settings.specs.Number.{number_of}
-use Rattle.state.specs.Answer.{Report, report_of}
+use Rattle.settings.proofs.Table.{number_low}
+use Rattle.state.specs.Answer.{kind_of}
 use Rattle.state.specs.declared.Answer.{Answer}
 use Rattle.state.specs.declared.State.{State}
 use Rattle.loss.specs.Loss.{loss, outcome_of, in_buffer}
@@ -22,8 +27,8 @@ use Rattle.loss.proofs.Samples.{loss-samples}
 use Rattle.words.specs.Bytes.{words_bytes, floats_bytes, floats_at}
 use Rattle.words.proofs.Laws.{length-bytes}
 use Rattle.record.specs.Record.{record_length, state_of, history_of, record_of}
-use Rattle.answer_head.specs.Head.{samples_most, head_most, Headed, headed, headed_by, head_written}
-use Rattle.answer_head.proofs.Heads.{head-fits, head-written}
+use Rattle.answer_head.specs.Head.{samples_most, head_most, headed, headed_by, head_fits, head_written}
+use Rattle.answer_head.proofs.Heads.{head-fits, head-all}
 use Rattle.answer.specs.Answer.{loss_of, head_of, record_after, Answered, with_record, takes, answer_record}
 
 -- what the samples written leave at the front of a buffer
@@ -43,34 +48,56 @@ unfolding loss_of history_of
 outcome-from b s h m n e f g k = λ i. loss (e i) ((f ∙ ap (floats_at b 161) g) i) (k i)
 
 -- what the steps leave, from what the call left
-module _ (b : List ℕ) (a : Answer) (p q g : List Float) (made : outcome_of a q g ≡ in_buffer p (loss_of b)) where
-  report : report_of a ≡ (loss_of b).report
-  unfolding in_buffer
-  report = ap (λ z. z.report) made
+module _ (b lent : List ℕ) (room : head_most ≤ length lent) where
+  abbrev answered : Reply Answered
+  answered = reply true (with_record (headed_by (head_of (loss_of b)) lent) (record_after b))
 
-  pub samples-most : a.samples ≤ samples_most
-  samples-most = subst (λ (z : Report). z.samples ≤ samples_most) (sym report) (outcome-samples b).1
-
-  -- the head
-  pub head-is : (h : Headed) (lent : List ℕ) (number : ℕ) → length q ≡ samples_most → head_most ≤ length lent → number ≡ number_of a.number
-      → h ≡ head_written number a.kind a.samples q lent → h ≡ headed_by (head_of (loss_of b)) lent
-  unfolding head_of in_buffer
-  head-is h lent number w r e f =
+  -- the head that was written, and a record
+  with_head : (number kind : ℕ) (xs : List Float) (r : Result ℕ Refused) (h rec : List ℕ)
+      → number ≡ (loss_of b).report.number → kind ≡ (loss_of b).report.kind → xs ≡ (loss_of b).pcm → rec ≡ record_after b
+      → replied r (headed (value_or 0 r) h) ≡ reply_if (head_fits (length xs) (length xs) (length lent)) (head_written number kind (length xs) xs lent) (headed 0 lent)
+      → replied r (with_record (headed (value_or 0 r) h) rec) ≡ answered
+  unfolding head_of
+  with_head number kind xs r h rec n k x kept wrote =
       let o = loss_of b in
-      let n : number ≡ o.report.number = e ∙ ap (λ z. z.number) report in
-      let k : a.kind ≡ o.report.kind = ap (λ z. z.kind) report in
-      let m : a.samples ≡ o.report.samples = ap (λ z. z.samples) report in
-      let t : take a.samples q ≡ o.pcm = ap (λ z. take a.samples z.pcm) made ∙ front-taken o.pcm p a.samples ((outcome-samples b).0 ∙ sym m) in
-      let fits = head-fits a.samples (length q) (length lent) r samples-most (omega (arith, samples-most)) in
-      f ∙ head-written number a.kind a.samples q lent fits
-      ∙ (λ i. headed_by (words_bytes (n i ∷ k i ∷ m i ∷ []) ++ floats_bytes (t i)) lent)
+      let m : length xs ≡ o.report.samples = ap length x ∙ (outcome-samples b).0 in
+      let fits = head-fits (length xs) (length lent) room (omega (arith, (outcome-samples b).1)) in
+      let bytes = reply-lent _ _ _ wrote fits ∙ head-all number kind xs lent fits ∙ (λ i. headed_by (words_bytes (n i ∷ k i ∷ m i ∷ []) ++ floats_bytes (x i)) lent) in
+      let taken = reply-taken _ _ _ wrote ∙ fits in
+      λ i. reply (taken i) (with_record (bytes i) (kept i))
 
-  -- the record
-  pub record_is : (y : List ℕ) (number : ℕ) → number ≡ number_of a.number → y ≡ cond (eqb number 0) (record_of a.state g) b → y ≡ record_after b
-  unfolding record_after in_buffer
-  record_is y number e f =
-      let n : number ≡ (loss_of b).report.number = e ∙ ap (λ z. z.number) report in
-      f ∙ (λ i. cond (eqb (n i) 0) (record_of (made i).state (made i).history) b)
+  module _ (p q g : List Float) where
+    module _ (a : Answer) (made : outcome_of (state_of b) (Ok a) q g ≡ in_buffer p (loss_of b)) where
+      samples-are : a.samples ≡ (loss_of b).report.samples
+      unfolding in_buffer
+      samples-are = ap (λ z. z.report.samples) made
+
+      pub samples-most : a.samples ≤ samples_most
+      samples-most = omega (arith, samples-are, (outcome-samples b).1)
+
+      pub accepted-is : (kind : ℕ) (r : Result ℕ Refused) (h rec : List ℕ) → kind ≡ kind_of a.kind → rec ≡ record_of a.state g
+          → replied r (headed (value_or 0 r) h)
+          ≡ reply_if (head_fits (length (take a.samples q)) (length (take a.samples q)) (length lent)) (head_written 0 kind (length (take a.samples q)) (take a.samples q) lent) (headed 0 lent)
+          → replied r (with_record (headed (value_or 0 r) h) rec) ≡ answered
+      unfolding record_after in_buffer
+      accepted-is kind r h rec k kept wrote =
+          let o = loss_of b in
+          let t : take a.samples q ≡ o.pcm = ap (λ z. take a.samples z.pcm) made ∙ front-taken o.pcm p a.samples ((outcome-samples b).0 ∙ sym samples-are) in
+          with_head 0 kind _ r h rec (ap (λ z. z.report.number) made) (k ∙ ap (λ z. z.report.kind) made) t
+          (kept ∙ (λ i. cond (eqb (made i).report.number 0) (record_of (made i).state (made i).history) b)) wrote
+
+    module _ (e : Refusal) (made : outcome_of (state_of b) (Err e) q g ≡ in_buffer p (loss_of b)) where
+      pub refused-is : (number : ℕ) (r : Result ℕ Refused) (h : List ℕ) → number ≡ number_of e
+          → replied r (headed (value_or 0 r) h) ≡ reply_if (head_fits 0 0 (length lent)) (head_written number 0 0 [] lent) (headed 0 lent)
+          → replied r (with_record (headed (value_or 0 r) h) b) ≡ answered
+      unfolding record_after in_buffer
+      refused-is number r h n wrote =
+          let o = loss_of b in
+          let none : [] ≡ o.pcm = ap (λ m. take m o.pcm) (ap (λ z. z.report.samples) made ∙ sym (outcome-samples b).0) ∙ take-length o.pcm in
+          let kept : b ≡ record_after b =
+          sym (pick-false (eqb (number_of e) 0) (record_of o.state o.history) b (ne_eqb (number_of e) 0 (number_low e)))
+          ∙ (λ i. cond (eqb (made i).report.number 0) (record_of o.state o.history) b) in
+          with_head number 0 [] r h b (n ∙ ap (λ z. z.report.number) made) (ap (λ z. z.report.kind) made) none kept wrote
 
 -- the public step
 module _ (b h : List ℕ) where
@@ -86,13 +113,23 @@ module _ (b h : List ℕ) where
   unfolding takes
   no_room q = and_second (eqb (length b) record_length) (leb head_most (length h)) (lt-leb head_most (length h) q)
 
-  pub stays : takes b h ≡ false → with_record (headed 0 h) b ≡ answer_record b h
+  pub answers : takes b h ≡ true → with_record (headed_by (head_of (loss_of b)) h) (record_after b) ≡ answer_record b h
   unfolding answer_record
-  stays e = sym (pick-false (takes b h) (with_record (headed_by (head_of (loss_of b)) h) (record_after b)) (with_record (headed 0 h) b) e)
+  answers e = sym (pick_true (takes b h) (with_record (headed_by (head_of (loss_of b)) h) (record_after b)) (with_record (headed 0 h) b) e)
 
-  pub answers : takes b h ≡ true → {a : Answered} → a ≡ with_record (headed_by (head_of (loss_of b)) h) (record_after b) → a ≡ answer_record b h
+  -- of a step that was refused nothing is left either
+  pub refused : takes b h ≡ false → with_record (headed 0 h) b ≡ answer_record b h
   unfolding answer_record
-  answers e q = q ∙ sym (pick_true (takes b h) (with_record (headed_by (head_of (loss_of b)) h) (record_after b)) (with_record (headed 0 h) b) e)
+  refused e = sym (pick-false (takes b h) (with_record (headed_by (head_of (loss_of b)) h) (record_after b)) (with_record (headed 0 h) b) e)
+
+  -- whether it was refused or not
+  pub step-is : {t : Bool} {x : Answered} → reply t x ≡ reply_if (takes b h) (answer_record b h) (with_record (headed 0 h) b) → x ≡ answer_record b h
+  unfolding reply_if
+  step-is {t} {x} e = go (takes b h) refl (ap (λ z. z.lent) e)
+    where
+      go : (c : Bool) → takes b h ≡ c → x ≡ cond c (answer_record b h) (with_record (headed 0 h) b) → x ≡ answer_record b h
+      go true w q = q
+      go false w q = q ∙ refused w
 
 -- an answer's length is at most that of the buffer it needs
 head-most : (b : List ℕ) → length (head_of (loss_of b)) ≤ head_most

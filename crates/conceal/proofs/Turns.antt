@@ -6,11 +6,17 @@ use Rattle.std.specs.Io.KnownBytes.{Keeps, Appends, Consumes}
 use Rattle.std.proofs.KnownBytes.{Appends-nil, Appends-trans}
 use Rattle.loops.specs.Pick.{pick_true, pick-false}
 use lib.Seq.{take_at}
-use lib.Dec.{ltb}
-use borrow.Author.Tests.{lt-ltb, le-ltb}
+use lib.Dec.{ltb, leb}
+use borrow.Author.Tests.{lt-ltb, le-ltb, le-leb}
+use Rattle.std.proofs.lemmas.List.{length-replicate}
+use Rattle.std.specs.Result.{IsOk}
+use Rattle.reply.specs.declared.Refused.{Refused}
+use Rattle.reply.specs.Reply.{replied, reply_if, value_or, reply-lent, reply-taken}
 use Rattle.record.specs.Record.{record_length}
-use Rattle.answer_head.specs.Head.{headed, answer_tail}
-use Rattle.answer.specs.Answer.{answers, with_record, answer_record}
+use Rattle.answer_head.specs.Head.{head_most, report_length, headed, answer_tail}
+use Rattle.answer_head.proofs.Heads.{tail-most}
+use Rattle.answer.specs.Answer.{answers, with_record, takes, answer_record}
+use Rattle.answer.proofs.Answers.{accepted, step-is, answer-most}
 use Rattle.answer_laws.specs.Program.{buffer, head_bytes, whole_step, program}
 use Rattle.conceal.specs.Turn.{IsTurn}
 use Rattle.answer_laws.proofs.Whole.{program-answers}
@@ -102,10 +108,45 @@ whole-turn n rec (Some xs) (Some ys) old new l h p q =
     let rest : ys ≡ drop record_length xs = sym (ap (drop record_length) split ∙ drop_at rec ys record_length l) in
     (omega (arith, ap length split, length-append rec ys), rest, subst (λ z. Appends old new (whole_step z)) (sym first) q)
 
--- the head's bytes, and then the record as the step left it
-pub whole-written : {E : Type 0} (n : ℕ) (head rec b : List ℕ) (old mid new : Option (List ℕ)) (r : Result Unit E) → with_record (headed n head) rec ≡ answer_record b buffer
-    → Appends old mid (take n head) → OnOk r (Appends mid new rec) → OnOk r (Appends old new (whole_step b))
-unfolding whole_step
-whole-written n head rec b old mid new (Ok x) e p q =
-    subst (Appends old new) (ap (λ a. head_bytes a.headed ++ a.rec) e) (Appends-trans old mid new (take n head) rec p q)
-whole-written n head rec b old mid new (Err x) e p q = tt
+-- ---- the two steps are not refused
+
+room : head_most ≤ length buffer
+room = omega (arith, length-replicate {A = ℕ} head_most 0)
+
+-- what is left past the last whole record
+module _ (n cut : ℕ) (head : List ℕ) (r : Result ℕ Refused)
+    (told : replied r (headed (value_or 0 r) head) ≡ reply_if (leb report_length (length buffer)) (answer_tail n buffer) (headed 0 buffer)) where
+  fits : leb report_length (length buffer) ≡ true
+  fits = let h = room in le-leb report_length (length buffer) (omega arith)
+
+  pub rest-taken : IsOk r
+  rest-taken = reply-taken _ _ _ told ∙ fits
+
+  rest-is : r ≡ Ok cut → headed cut head ≡ answer_tail n buffer
+  rest-is e = sym (ap (λ z. headed (value_or 0 z) head) e) ∙ reply-lent _ _ _ told fits
+
+  pub rest-most : r ≡ Ok cut → cut ≤ report_length
+  rest-most e = tail-most cut n head buffer (rest-is e)
+
+  pub rest-written : r ≡ Ok cut → (old new : Option (List ℕ)) → Appends old new (take cut head) → Appends old new (head_bytes (answer_tail n buffer))
+  rest-written e old new = subst (Appends old new) (ap head_bytes (rest-is e))
+
+-- a whole record
+module _ (n : ℕ) (head rec b : List ℕ) (r : Result ℕ Refused)
+    (told : replied r (with_record (headed (value_or 0 r) head) rec) ≡ reply_if (takes b buffer) (answer_record b buffer) (with_record (headed 0 buffer) b)) where
+  pub whole-taken : length b ≡ record_length → IsOk r
+  whole-taken l = reply-taken _ _ _ told ∙ accepted b buffer l room
+
+  whole-is : r ≡ Ok n → with_record (headed n head) rec ≡ answer_record b buffer
+  whole-is e = sym (ap (λ z. with_record (headed (value_or 0 z) head) rec) e) ∙ step-is b buffer told
+
+  pub whole-most : r ≡ Ok n → n ≤ head_most
+  whole-most e = answer-most n head rec b buffer (whole-is e)
+
+  -- the head's bytes, and then the record as the step left it
+  pub whole-written : {E : Type 0} (old mid new : Option (List ℕ)) (w : Result Unit E) → r ≡ Ok n
+      → Appends old mid (take n head) → OnOk w (Appends mid new rec) → OnOk w (Appends old new (whole_step b))
+  unfolding whole_step
+  whole-written old mid new (Ok x) e p q =
+      subst (Appends old new) (ap (λ a. head_bytes a.headed ++ a.rec) (whole-is e)) (Appends-trans old mid new (take n head) rec p q)
+  whole-written old mid new (Err x) e p q = tt

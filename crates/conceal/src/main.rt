@@ -36,7 +36,7 @@ fn written<W: Write>(clock: &impl Clock, output: &mut W, bytes: &[u8]) -> Result
 
 // Goes on where standard error takes nothing.
 fn say_cut(rt: &impl Eprint, whole: u64) {
-    let _ = eprintln!(rt; "conceal: a record cut short after {whole} whole ones");
+    eprintln!(rt; "conceal: a record cut short after {whole} whole ones").ok();
 }
 
 // What is left past the last whole record, n bytes.
@@ -50,7 +50,7 @@ fn answer_rest<W: Write>(
         (head_bytes (answer_tail n buffer))) }
 {
     let mut head = [0u8; answer_head::HEAD_BYTES];
-    let cut = answer_head::answer_tail(n, &mut head);
+    let cut = answer_head::answer_tail(n, &mut head).unwrap();
     if cut > 0 {
         say_cut(rt, whole);
         written(rt, output, &head[..cut])?;
@@ -58,11 +58,15 @@ fn answer_rest<W: Write>(
     Ok(())
 }
 
-fn answer_whole<W: Write>(clock: &impl Clock, output: &mut W, rec: &mut [u8]) -> Result<()>
+fn answer_whole<W: Write>(
+    clock: &impl Clock,
+    output: &mut W,
+    rec: &mut [u8; record::BYTES],
+) -> Result<()>
     ensures { OnOk result (Appends (W.contents output.old) (W.contents output.new) (whole_step rec.old)) }
 {
     let mut head = [0u8; answer_head::HEAD_BYTES];
-    let n = answer::answer_record(rec, &mut head);
+    let n = answer::answer_record(rec, &mut head).unwrap();
     written(clock, output, &head[..n])?;
     written(clock, output, rec)
 }
@@ -109,7 +113,7 @@ fn main(rt: HostRuntime) -> ExitCode {
     match conceal_all(&rt, &mut rt.stdin(), &mut rt.stdout()) {
         Ok(()) => ExitCode::SUCCESS,
         Err(error) => {
-            let _ = eprintln!(rt; "conceal: {error:#}");
+            eprintln!(rt; "conceal: {error:#}").ok();
             ExitCode::FAILURE
         }
     }

@@ -1,5 +1,5 @@
 // Reading and writing whole buffers. A signal loses nothing, and a stream that does not block is waited for.
-ghost use Rattle.std.specs.Prelude.{◌≡◌, ◌<◌, length, take, IfOk, OnOk, OnErr};
+ghost use Rattle.std.specs.Prelude.{◌≡◌, ◌<◌, length, take, IfOk, OnOk, IsTrue, IsErr};
 ghost use Rattle.std.specs.Io.{ReadsAtMost, WritesAtMost};
 ghost use Rattle.std.specs.Io.KnownBytes.{Appends, Consumes, IsAtEnd, ReadConsumes, WriteAppends};
 
@@ -11,8 +11,13 @@ use std::time::Duration;
 // How long a stream that does not block is left alone.
 const PAUSE_MILLIS: u64 = 1;
 
-// Whether a call that just failed is made again: a signal came first, or there is nothing to be had yet.
-fn again(clock: &impl Clock, error: &Error) -> bool {
+// Whether a call is made again: it failed, and a signal came first or there is nothing to be had yet.
+fn again(clock: &impl Clock, call: &Result<usize>) -> bool
+    ensures { IsTrue result → IsErr call.now }
+{
+    let Err(error) = call else {
+        return false;
+    };
     match error.kind() {
         ErrorKind::Interrupted => true,
         ErrorKind::WouldBlock => {
@@ -33,31 +38,23 @@ fn read_some<R: Read>(clock: &impl Clock, input: &mut R, part: &mut [u8]) -> Res
     ensures bytes { ReadConsumes (R.remaining input.old) (R.remaining input.new) result part.new }
 {
     for _ in 0..u64::MAX {
-        match input.read(part) {
-            Ok(n) => return Ok(n),
-            Err(error) => {
-                if !again(clock, &error) {
-                    return Err(error);
-                }
-            }
+        let call = input.read(part);
+        if !again(clock, &call) {
+            return call;
         }
     }
     Err(gave_up())
 }
 
-// One write that moves bytes or fails.
+// One write that moves bytes or fails. Twice the loop: of a stream that a closure borrows and changes its caller learns nothing.
 fn write_some<W: Write>(clock: &impl Clock, output: &mut W, part: &[u8]) -> Result<usize>
     ensures bound { WritesAtMost result part.now }
     ensures bytes { WriteAppends (W.contents output.old) (W.contents output.new) result part.now }
 {
     for _ in 0..u64::MAX {
-        match output.write(part) {
-            Ok(n) => return Ok(n),
-            Err(error) => {
-                if !again(clock, &error) {
-                    return Err(error);
-                }
-            }
+        let call = output.write(part);
+        if !again(clock, &call) {
+            return call;
         }
     }
     Err(gave_up())

@@ -41,5 +41,5 @@ pub extern "C" fn vikkozhan_decode_lost(
 pub extern "C" fn vikkozhan_answer(rec: &mut [u8], head: &mut [u8]) -> usize
     ensures { with_record (headed result head.new) rec.new ≡ answer_record rec.old head.old }
 {
-    answer::answer_record(rec, head)
+    answer::answer_record(rec, head).unwrap_or(0)
 }

@@ -1,12 +1,14 @@
--- `direct::decode_lost` meets its contract: `decode_lost`'s, word by word.
-use native.Mathlib.Omega.{arith}
-use Rattle.direct.proofs.Laws.{samples-most, call-is}
+-- `decode_lost` meets its contract: that of the call, word by word.
+use Rattle.std.proofs.Common.{arith}
+use Rattle.direct.proofs.Laws.{samples-most, accepted-is, refused-is}
 use Rattle.direct.proofs.decode_lost.Goals as goal
 
 pub overflow_cast-answer : goal.overflow_cast-answer
 overflow_cast-answer c =
-    record { fits = omega (arith, samples-most _ c.decode_lost-a.result _ _ _ _ c.decode_lost-a.ensures) }
+    record { fits = omega (arith, samples-most c.from_words.result _ _ _ _ _ c.from_words.ensures c.in-Ok.a c.in-Ok.ensures) }
 
-pub returns : goal.returns
-returns c =
-    call-is _ c.decode_lost-a.result _ _ _ _ c.decode_lost-a.ensures _ _ _ c.from_words-s.ensures c.value-number.ensures c.keep_state.ensures
+pub returns-in-Ok : goal.returns-in-Ok
+returns-in-Ok c = accepted-is c.from_words.result _ _ _ _ _ c.from_words.ensures c.in-Ok.a c.in-Ok.ensures _ _ c.to_words.ensures c.from.ensures
+
+pub returns-in-Err : goal.returns-in-Err
+returns-in-Err c = refused-is c.from_words.result _ _ _ _ _ c.from_words.ensures c.in-Err.e c.in-Err.ensures _ c.from-number.ensures
