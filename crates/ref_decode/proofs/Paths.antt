@@ -8,12 +8,15 @@ use lib.ListN.{length}
 use lib.Dec.{eqb}
 use lib.Ieee.{Float}
 use borrow.Author.Tests.{le-leb, eq-eqb, eqb-false}
-use Rattle.reply.specs.Reply.{reply, reply_if, reply-lent}
+use Rattle.std.specs.Prelude.{Result, Ok}
+use Rattle.reply.specs.declared.Refused.{Refused}
+use Rattle.reply.specs.Reply.{reply, reply_if, ok_if, reply-lent}
 use Rattle.history.specs.History.{whole, tails, with_tails}
 use Rattle.settings.specs.Settings.{frame, stereo, check_settings}
 use Rattle.state.specs.State.{core, noisy}
 use Rattle.state.specs.Refusal.{lag_least, lag_most, AcceptedState}
 use Rattle.state.specs.declared.State.{State}
+use Rattle.state.specs.declared.Kind.TheVariants.{Pitch, Noise}
 use Rattle.state.proofs.Keep.{ok-start, lag_range, pitch_start, pitch_count, pitch_searches}
 use Rattle.pitch_lag.specs.Lag.{lag_of}
 use Rattle.pitch_predictor.specs.Predictor.{fitted_to}
@@ -23,8 +26,17 @@ use Rattle.noise_loss.specs.Loss.{Noised, noised, after_noise, noise_takes}
 use Rattle.loss.specs.Loss.{lowered, blocks, noise_made, pitch_made, tails_by_noise, tails_by_pitch}
 use Rattle.loss.proofs.Lags.{lag_low, lag_high}
 
+-- a call that is lent nothing, where it takes what it was given
+module _ {A : Type 0} (b : Bool) (x : A) {r : Result A Refused} (e : r ≡ ok_if b x) (q : b ≡ true) where
+  pub ok_is : r ≡ Ok x
+  unfolding ok_if
+  ok_is = e ∙ ap (λ z. ok_if z x) q
+
+  pub ok_value : {y : A} → r ≡ Ok y → y ≡ x
+  ok_value f = let k = ok_is in cc
+
 module _ (s : State) (h : List Float) (z : AcceptedState s h) where
-  noise_taken : noise_takes s.settings (length h) ≡ true
+  pub noise_taken : noise_takes s.settings (length h) ≡ true
   unfolding noise_takes
   noise_taken = let o = ok-start s h z in ap₂ ◌&&◌ (eq-eqb (check_settings s.settings) 0 o.settings) (eq-eqb (length h) whole o.history)
 
@@ -38,19 +50,15 @@ module _ (s : State) (h : List Float) (z : AcceptedState s h) where
         reply-lent _ _ _ r noise_taken
         ∙ ap (λ x. after_noise s.settings s.seed x h) (q ∙ ap (λ x. read_energies s.loss_count x s.background) p)
 
-    pub noise_path : (record { kind = 2; seed = seed; lag = s.lag; coarse = coarse; predictor = s.predictor } ≡ noise_made s)
+    pub noise_path : (n : ℕ) → seed ≡ n → (record { kind = Noise; seed = n; lag = s.lag; coarse = coarse; predictor = s.predictor } ≡ noise_made s)
         × (g ≡ with_tails h (tails_by_noise s (tails h)))
     unfolding noise_made lowered
-    noise_path = (
-      (λ i. record { kind = 2; seed = (drawn i).seed; lag = s.lag; coarse = p i; predictor = s.predictor }),
+    noise_path n f = (
+      (λ i. record { kind = Noise; seed = (sym f ∙ ap (λ (x : Noised). x.seed) drawn) i; lag = s.lag; coarse = p i; predictor = s.predictor }),
       ap (λ (x : Noised). x.history) drawn,
     )
 
-  module _ (e : noisy (core s) ≡ false) (lag : ℕ) (predictor g : List Float) (t : Bool)
-      (p : lag ≡ cond (eqb s.loss_count 0) (lag_of (eqb s.settings.channels 2) h) s.lag)
-      (q : predictor ≡ cond (eqb s.loss_count 0) (fitted_to (eqb s.settings.channels 2) s.predictor (tails h)) s.predictor)
-      (r : reply t g ≡ reply_if (pitch_takes s.settings (length h) lag s.filter)
-      (with_tails h (pitch_tails (stereo s.settings) (frame s.settings) lag (eqb s.loss_count 0) predictor s.filter (tails h))) h) where
+  module _ (e : noisy (core s) ≡ false) (lag : ℕ) (p : lag ≡ cond (eqb s.loss_count 0) (lag_of (eqb s.settings.channels 2) h) s.lag) where
     in-range : (lag_least ≤ lag) × (lag ≤ lag_most)
     in-range = go (eqb s.loss_count 0) refl p
       where
@@ -61,7 +69,7 @@ module _ (s : State) (h : List Float) (z : AcceptedState s h) where
             (omega (arith, eqb-false s.loss_count 0 a)) (omega (arith, pitch_count s e)) in
             (omega arith, omega arith)
 
-    pitch_taken : pitch_takes s.settings (length h) lag s.filter ≡ true
+    pub pitch_taken : pitch_takes s.settings (length h) lag s.filter ≡ true
     unfolding pitch_takes
     pitch_taken =
         let o = ok-start s h z in
@@ -77,15 +85,19 @@ module _ (s : State) (h : List Float) (z : AcceptedState s h) where
     unfolding pitch_made stereo
     lag_is = p ∙ ap (λ b. cond b (lag_of (eqb s.settings.channels 2) h) s.lag) (sym (pitch_searches s e))
 
-    predictor_is : predictor ≡ (pitch_made s h).predictor
-    unfolding pitch_made stereo
-    predictor_is = q ∙ ap (λ b. cond b (fitted_to (eqb s.settings.channels 2) s.predictor (tails h)) s.predictor) (sym (pitch_searches s e))
+    module _ (predictor g : List Float) (t : Bool)
+        (q : predictor ≡ cond (eqb s.loss_count 0) (fitted_to (eqb s.settings.channels 2) s.predictor (tails h)) s.predictor)
+        (r : reply t g ≡ reply_if (pitch_takes s.settings (length h) lag s.filter)
+        (with_tails h (pitch_tails (stereo s.settings) (frame s.settings) lag (eqb s.loss_count 0) predictor s.filter (tails h))) h) where
+      predictor_is : predictor ≡ (pitch_made s h).predictor
+      unfolding pitch_made stereo
+      predictor_is = q ∙ ap (λ b. cond b (fitted_to (eqb s.settings.channels 2) s.predictor (tails h)) s.predictor) (sym (pitch_searches s e))
 
-    pub pitch_path : (record { kind = 1; seed = s.seed; lag = lag; coarse = s.coarse; predictor = predictor } ≡ pitch_made s h)
-        × (g ≡ with_tails h (tails_by_pitch s (pitch_made s h) (tails h)))
-    unfolding pitch_made tails_by_pitch
-    pitch_path = (
-      (λ i. record { kind = 1; seed = s.seed; lag = lag_is i; coarse = s.coarse; predictor = predictor_is i }),
-      reply-lent _ _ _ r pitch_taken
-          ∙ ap₂ (λ x y. with_tails h (pitch_tails (stereo s.settings) (frame s.settings) x (eqb s.loss_count 0) y s.filter (tails h))) lag_is predictor_is,
-    )
+      pub pitch_path : (record { kind = Pitch; seed = s.seed; lag = lag; coarse = s.coarse; predictor = predictor } ≡ pitch_made s h)
+          × (g ≡ with_tails h (tails_by_pitch s (pitch_made s h) (tails h)))
+      unfolding pitch_made tails_by_pitch
+      pitch_path = (
+        (λ i. record { kind = Pitch; seed = s.seed; lag = lag_is i; coarse = s.coarse; predictor = predictor_is i }),
+        reply-lent _ _ _ r pitch_taken
+            ∙ ap₂ (λ x y. with_tails h (pitch_tails (stereo s.settings) (frame s.settings) x (eqb s.loss_count 0) y s.filter (tails h))) lag_is predictor_is,
+      )

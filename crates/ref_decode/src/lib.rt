@@ -21,7 +21,11 @@ fn conceal(s: State, history: &mut [f32]) -> Made
     requires { refuses_state s (length history.old) ≡ 0 }
     ensures { (result ≡ made s history.old) × (history.new ≡ history_after s history.old) }
 {
-    if by_noise(s) { noise_made(s, history) } else { pitch_made(s, history) }
+    if by_noise(s) {
+        noise_made(s, history)
+    } else {
+        pitch_made(s, history)
+    }
 }
 
 // Conceals one lost frame: `history` is 4,336 samples, channel 0 first, each channel's 2,048 oldest first and then

@@ -1,22 +1,20 @@
--- `ref_decode::decode_lost` meets its contract: refused by the first number that applies, else by noise or by pitch.
-use mathlib.Core.Path.{◌∙◌, sym}
-use Rattle.finish.proofs.End.{refused-is}
+-- `ref_decode::decode_lost` meets its contract: refused by the first number that applies, else by its path and the end of a call.
+use Rattle.std.proofs.Common.{sym}
+use Rattle.settings.proofs.Table.{exit_is}
+use Rattle.finish.proofs.End.{accepted_state}
 use Rattle.ref_decode.proofs.Entry.{accepted_left, refused-left}
 use Rattle.ref_decode.proofs.decode_lost.Goals as goal
 
-pub returns-then-value-ne0 : goal.returns-then-value-ne0
-returns-then-value-ne0 c =
-    refused-is _ c.args.s c.args.history.now c.args.pcm.now
-    ∙ refused-left c.args.s c.args.history.now c.args.pcm.now _ c.first_refusal-number.ensures (λ z. c.if-value-ne0.true (c.value.ensures ∙ z))
+pub returns-in_err-first_refusal : goal.returns-in_err-first_refusal
+returns-in_err-first_refusal c =
+    let x = c.args in
+    refused-left x.s x.history.now x.pcm.now _ _ (exit_is _ _ c.from_residual.ensures.1) c.in_err-first_refusal.ensures
 
-pub conceal_by_noise-requires : goal.conceal_by_noise-requires
-conceal_by_noise-requires c = (sym c.first_refusal-number.ensures ∙ sym c.value.ensures ∙ c.if-value-ne0.false, sym c.by_noise.ensures ∙ c.if-by_noise.true)
-
-pub returns-then-by_noise : goal.returns-then-by_noise
-returns-then-by_noise c = c.conceal_by_noise.ensures ∙ accepted_left _ _ _ _ c.first_refusal-number.ensures (sym c.value.ensures ∙ c.if-value-ne0.false)
-
-pub conceal_by_pitch-requires : goal.conceal_by_pitch-requires
-conceal_by_pitch-requires c = (sym c.first_refusal-number.ensures ∙ sym c.value.ensures ∙ c.if-value-ne0.false, sym c.by_noise.ensures ∙ c.if-by_noise.false)
+pub conceal-made-requires : goal.conceal-made-requires
+conceal-made-requires c = accepted_state _ _ _ (sym c.in_ok-first_refusal.ensures)
 
 pub returns : goal.returns
-returns c = c.conceal_by_pitch.ensures ∙ accepted_left _ _ _ _ c.first_refusal-number.ensures (sym c.value.ensures ∙ c.if-value-ne0.false)
+returns c =
+    let x = c.args in
+    let y = c.conceal-made in
+    accepted_left x.s x.history.now x.pcm.now _ _ _ c.finish.ensures y.auto.history (sym c.in_ok-first_refusal.ensures) y.ensures.0 y.ensures.1

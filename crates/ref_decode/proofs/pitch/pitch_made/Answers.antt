@@ -1,17 +1,52 @@
--- `ref_decode::pitch::pitch_made` meets its contract.
+-- `ref_decode::pitch::pitch_made` meets its contract: no step refuses, and lag and coefficients are those of the definition.
+use Rattle.std.proofs.Common.{◌≡◌, ap, ◌∙◌, cond, length}
+use Rattle.std.specs.Prelude.{eqb}
+use Rattle.std.specs.Result.{is_ok}
+use borrow.Author.Tests.{eq-eqb, ne_eqb}
+use Rattle.history.specs.History.{whole, tails}
+use Rattle.reply.specs.Reply.{reply-taken}
 use Rattle.state.proofs.Keep.{ok-start}
-use Rattle.ref_decode.proofs.Paths.{pitch_path}
+use Rattle.pitch_lag.specs.Lag.{lag_of}
+use Rattle.pitch_predictor.specs.Predictor.{fitted_to}
+use Rattle.ref_decode.proofs.Paths.{ok_is, ok_value, pitch_taken, pitch_path}
 use Rattle.ref_decode.proofs.pitch.pitch_made.Goals as goal
+use Rattle.ref_decode.proofs.pitch.pitch_made.Goals.{then-first, else-first}
 
-pub lag_used-lag-requires : goal.lag_used-lag-requires
-lag_used-lag-requires c = (ok-start c.args.s c.args.history.now c.requires.0).history
+pub unwrap-lag-requires : goal.unwrap-lag-requires
+unwrap-lag-requires c =
+    let l = (ok-start c.args.s c.args.history.now c.requires.0).history in
+    ap is_ok (ok_is _ _ c.find_lag.ensures (eq-eqb _ whole l))
 
-pub predictor_used-predictor-requires : goal.predictor_used-predictor-requires
-predictor_used-predictor-requires c = (ok-start c.args.s c.args.history.now c.requires.0).history
+pub unwrap-predictor-requires : goal.unwrap-predictor-requires
+unwrap-predictor-requires c =
+    let l = (ok-start c.args.s c.args.history.now c.requires.0).history in
+    ap is_ok (ok_is _ _ c.fit_predictor.ensures (eq-eqb _ whole l))
+
+pub unwrap-requires : goal.unwrap-requires
+unwrap-requires c =
+    let s = c.args.s in
+    let h = c.args.history.now in
+    let l = eq-eqb (length h) whole (ok-start s h c.requires.0).history in
+    let lag : c.if-first.lag ≡ cond (eqb s.loss_count 0) (lag_of (eqb s.settings.channels 2) h) s.lag =
+    elim c.if-first.branch [
+      | then-first w ↦ rw (eq-eqb s.loss_count 0 w.if-first.true) (w.lag-is ∙ ok_value _ _ w.find_lag.ensures l w.unwrap-lag.ensures)
+      | else-first w ↦ rw (ne_eqb s.loss_count 0 w.if-first.false) w.lag-is
+    ] in
+    reply-taken _ _ _ c.pitch_loss.ensures ∙ pitch_taken s h c.requires.0 c.requires.1 _ lag
 
 pub returns : goal.returns
 returns c =
-    let lag = c.lag_used-lag in
-    let predictor = c.predictor_used-predictor in
-    pitch_path c.args.s c.args.history.now c.requires.0 c.requires.1 _ _ _ _ lag.ensures predictor.ensures
-    c.pitch_loss.ensures
+    let s = c.args.s in
+    let h = c.args.history.now in
+    let l = eq-eqb (length h) whole (ok-start s h c.requires.0).history in
+    let lag : c.if-first.lag ≡ cond (eqb s.loss_count 0) (lag_of (eqb s.settings.channels 2) h) s.lag =
+    elim c.if-first.branch [
+      | then-first w ↦ rw (eq-eqb s.loss_count 0 w.if-first.true) (w.lag-is ∙ ok_value _ _ w.find_lag.ensures l w.unwrap-lag.ensures)
+      | else-first w ↦ rw (ne_eqb s.loss_count 0 w.if-first.false) w.lag-is
+    ] in
+    let predictor : c.if-first.predictor ≡ cond (eqb s.loss_count 0) (fitted_to (eqb s.settings.channels 2) s.predictor (tails h)) s.predictor =
+    elim c.if-first.branch [
+      | then-first w ↦ rw (eq-eqb s.loss_count 0 w.if-first.true) (w.predictor-is ∙ ok_value _ _ w.fit_predictor.ensures l w.unwrap-predictor.ensures)
+      | else-first w ↦ rw (ne_eqb s.loss_count 0 w.if-first.false) w.predictor-is
+    ] in
+    pitch_path s h c.requires.0 c.requires.1 _ lag _ _ _ predictor c.pitch_loss.ensures
