@@ -4,14 +4,13 @@ ghost use Rattle.loops.specs.Part.{put};
 ghost use Rattle.history.specs.History.{half, overlap, channel, whole, tails, with_tails, tail_list, tail_of};
 ghost use Rattle.post_filter.specs.Limits.{filter_fits};
 ghost use Rattle.state.specs.Refusal.{lag_least, lag_most};
-ghost use Rattle.extrapolate.specs.Extrapolate.{order, longest, extrapolated};
+ghost use Rattle.extrapolate.specs.Extrapolate.{order, extrapolated};
 ghost use Rattle.take_in.specs.TakeIn.{longest_frame, extra, tail_after};
 ghost use Rattle.pitch_loss.specs.PitchLoss.{pitch_tails};
 
 use crate::Pitch;
 use extrapolate::{LONGEST, ORDER, extrapolate, extrapolate_pair};
 use history::{CHANNEL, EXTRA, HALF, SAMPLES, TAIL};
-use post_filter::Filter;
 use take_in::take_in;
 
 // Where channel 1's newest samples begin, and where they end.
@@ -27,70 +26,86 @@ fn coefficients(predictor: [f32; 48], from: usize) -> [f32; 24]
     predictor[from..from + ORDER].try_into().unwrap()
 }
 
-// What follows each channel, their filters side by side: n samples and 240 more, to the front of e0 and of e1.
-fn continue_both(e0: &mut [f32], e1: &mut [f32], n: usize, h: &[f32], pitch: Pitch)
-    requires { (length e0.old ≡ longest) × (length e1.old ≡ longest) × (n ≤ longest_frame) × (length h.now ≡ whole) × (lag_least ≤ pitch.lag) × (pitch.lag ≤ lag_most) }
-    ensures { (take (n + extra) e0.new
-        ≡ extrapolated (n + extra) (tails h.now).first.new pitch.lag pitch.first (take order pitch.predictor))
-        × (take (n + extra) e1.new
-        ≡ extrapolated (n + extra) (tails h.now).second.new pitch.lag pitch.first (drop order pitch.predictor)) }
-{
-    let lpc0 = coefficients(pitch.predictor, 0);
-    let lpc1 = coefficients(pitch.predictor, ORDER);
-    let m = n + EXTRA;
-    extrapolate_pair(
-        &mut e0[..m],
-        &mut e1[..m],
-        &h[HALF..SAMPLES],
-        &h[SECOND..END],
-        pitch.lag as usize,
-        pitch.first,
-        &lpc0,
-        &lpc1,
-    )
-    .unwrap();
+// A lost frame that is taken: n samples, by a pitch within its limits.
+#[derive(Clone, Copy)]
+pub(crate) struct Loss {
+    pub(crate) n: usize,
+    pub(crate) pitch: Pitch,
+    ghost frame: { n ≤ longest_frame },
+    ghost lag_low: { lag_least ≤ pitch.lag },
+    ghost lag_high: { pitch.lag ≤ lag_most },
+    ghost filter: { filter_fits pitch.filter ≡ true },
 }
 
-// The front of e comes in at the end of the channel whose newest 1,024 begin at `at`.
-fn take_at(h: &mut [f32], at: usize, n: usize, e: &[f32], filter: Filter)
-    requires { (length h.old ≡ whole) × (at ≤ channel + half) × (n ≤ longest_frame) × (length e.now ≡ longest) × (filter_fits filter ≡ true) }
-    ensures { h.new
-        ≡ put at (half + overlap)
-        (tail_list (tail_after n (take (n + extra) e.now) filter (tail_of (take (half + overlap) (drop at h.old)))))
-        h.old }
-{
-    take_in(&mut h[at..at + TAIL], n, &e[..n + EXTRA], filter).unwrap();
-}
+impl Loss {
+    // What follows each channel, their filters side by side: n samples and 240 more, to the front of e0 and of e1.
+    fn continue_both(self, e0: &mut [f32; LONGEST], e1: &mut [f32; LONGEST], h: &[f32])
+        requires { length h.now ≡ whole }
+        ensures { (take (self.n + extra) e0.new
+            ≡ extrapolated (self.n + extra) (tails h.now).first.new self.pitch.lag self.pitch.first (take order self.pitch.predictor))
+            × (take (self.n + extra) e1.new
+            ≡ extrapolated (self.n + extra) (tails h.now).second.new self.pitch.lag self.pitch.first (drop order self.pitch.predictor)) }
+    {
+        let m = self.n + EXTRA;
+        extrapolate_pair(
+            &mut e0[..m],
+            &mut e1[..m],
+            &h[HALF..SAMPLES],
+            &h[SECOND..END],
+            self.pitch.lag as usize,
+            self.pitch.first,
+            &coefficients(self.pitch.predictor, 0),
+            &coefficients(self.pitch.predictor, ORDER),
+        )
+        .unwrap();
+    }
 
-// Mono runs the single filter, stereo the pair.
-pub(crate) fn conceal_mono(n: usize, history: &mut [f32], pitch: Pitch)
-    requires { (length history.old ≡ whole) × (n ≤ longest_frame) × (lag_least ≤ pitch.lag) × (pitch.lag ≤ lag_most) × (filter_fits pitch.filter ≡ true) }
-    ensures { history.new
-        ≡ with_tails history.old
-        (pitch_tails false n pitch.lag pitch.first pitch.predictor pitch.filter (tails history.old)) }
-{
-    let lpc = coefficients(pitch.predictor, 0);
-    let mut e = [0.0f32; LONGEST];
-    extrapolate(
-        &mut e[..n + EXTRA],
-        &history[HALF..SAMPLES],
-        pitch.lag as usize,
-        pitch.first,
-        &lpc,
-    )
-    .unwrap();
-    take_at(history, HALF, n, &e, pitch.filter);
-}
+    // The front of e comes in at the end of the channel whose newest 1,024 begin at `at`.
+    fn take_at(self, h: &mut [f32], at: usize, e: &[f32; LONGEST])
+        requires { (length h.old ≡ whole) × (at ≤ channel + half) }
+        ensures { h.new
+            ≡ put at (half + overlap)
+            (tail_list (tail_after self.n (take (self.n + extra) e.now) self.pitch.filter (tail_of (take (half + overlap) (drop at h.old)))))
+            h.old }
+    {
+        take_in(
+            &mut h[at..at + TAIL],
+            self.n,
+            &e[..self.n + EXTRA],
+            self.pitch.filter,
+        )
+        .unwrap();
+    }
 
-pub(crate) fn conceal_stereo(n: usize, history: &mut [f32], pitch: Pitch)
-    requires { (length history.old ≡ whole) × (n ≤ longest_frame) × (lag_least ≤ pitch.lag) × (pitch.lag ≤ lag_most) × (filter_fits pitch.filter ≡ true) }
-    ensures { history.new
-        ≡ with_tails history.old
-        (pitch_tails true n pitch.lag pitch.first pitch.predictor pitch.filter (tails history.old)) }
-{
-    let mut e0 = [0.0f32; LONGEST];
-    let mut e1 = [0.0f32; LONGEST];
-    continue_both(&mut e0, &mut e1, n, history, pitch);
-    take_at(history, HALF, n, &e0, pitch.filter);
-    take_at(history, SECOND, n, &e1, pitch.filter);
+    // Mono runs the single filter, stereo the pair.
+    pub(crate) fn conceal_mono(self, history: &mut [f32])
+        requires { length history.old ≡ whole }
+        ensures { history.new
+            ≡ with_tails history.old
+            (pitch_tails false self.n self.pitch.lag self.pitch.first self.pitch.predictor self.pitch.filter (tails history.old)) }
+    {
+        let mut e = [0.0; LONGEST];
+        extrapolate(
+            &mut e[..self.n + EXTRA],
+            &history[HALF..SAMPLES],
+            self.pitch.lag as usize,
+            self.pitch.first,
+            &coefficients(self.pitch.predictor, 0),
+        )
+        .unwrap();
+        self.take_at(history, HALF, &e);
+    }
+
+    pub(crate) fn conceal_stereo(self, history: &mut [f32])
+        requires { length history.old ≡ whole }
+        ensures { history.new
+            ≡ with_tails history.old
+            (pitch_tails true self.n self.pitch.lag self.pitch.first self.pitch.predictor self.pitch.filter (tails history.old)) }
+    {
+        let mut e0 = [0.0; LONGEST];
+        let mut e1 = [0.0; LONGEST];
+        self.continue_both(&mut e0, &mut e1, history);
+        self.take_at(history, HALF, &e0);
+        self.take_at(history, SECOND, &e1);
+    }
 }

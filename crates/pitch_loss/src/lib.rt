@@ -8,6 +8,7 @@ ghost use Rattle.history.specs.History.{tails, with_tails};
 ghost use Rattle.settings.specs.Settings.{frame, stereo};
 ghost use Rattle.pitch_loss.specs.PitchLoss.{pitch_tails, pitch_takes};
 
+use channels::Loss;
 use history::WHOLE;
 use post_filter::{Filter, filter_fits};
 use reply::Refused;
@@ -51,11 +52,14 @@ pub fn pitch_loss(k: Settings, history: &mut [f32], pitch: Pitch) -> Result<(), 
     if !takes(k, history.len(), pitch) {
         return Err(Refused);
     }
-    let n = frame_size(k.lm);
+    let loss = Loss {
+        n: frame_size(k.lm),
+        pitch,
+    };
     if k.channels == 2 {
-        channels::conceal_stereo(n, history, pitch);
+        loss.conceal_stereo(history);
     } else {
-        channels::conceal_mono(n, history, pitch);
+        loss.conceal_mono(history);
     }
     Ok(())
 }

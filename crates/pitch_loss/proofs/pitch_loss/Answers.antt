@@ -8,15 +8,21 @@ use Rattle.pitch_loss.proofs.pitch_loss.Goals as goal
 pub returns-then-not-takes : goal.returns-then-not-takes
 returns-then-not-takes c = reply-no _ _ _ (sym c.if-not-takes.ensures) refl
 
-pub conceal_stereo-requires : goal.conceal_stereo-requires
-conceal_stereo-requires c =
+pub invariant_of-loss : goal.invariant_of-loss
+invariant_of-loss c =
     let f = takes-fits _ _ _ _ (sym c.if-not-takes.ensures) in
-    (f.whole, frame-fits _ _ f.good c.frame_size-n.ensures, f.lag_low, f.lag_high, f.filter)
+    record { frame = frame-fits _ _ f.good c.frame_size.ensures; lag_low = f.lag_low; lag_high = f.lag_high; filter = f.filter }
+
+pub invariant_of-loss-else-k-eq2 : goal.invariant_of-loss-else-k-eq2
+invariant_of-loss-else-k-eq2 c =
+    let f = takes-fits _ _ _ _ (sym c.if-not-takes.ensures) in
+    record { frame = frame-fits _ _ f.good c.frame_size.ensures; lag_low = f.lag_low; lag_high = f.lag_high; filter = f.filter }
+
+pub conceal_stereo-requires : goal.conceal_stereo-requires
+conceal_stereo-requires c = (takes-fits _ _ _ _ (sym c.if-not-takes.ensures)).whole
 
 pub conceal_mono-requires : goal.conceal_mono-requires
-conceal_mono-requires c =
-    let f = takes-fits _ _ _ _ (sym c.if-not-takes.ensures) in
-    (f.whole, frame-fits _ _ f.good c.frame_size-n.ensures, f.lag_low, f.lag_high, f.filter)
+conceal_mono-requires c = (takes-fits _ _ _ _ (sym c.if-not-takes.ensures)).whole
 
 pub returns-then-k-eq2 : goal.returns-then-k-eq2
 unfolding stereo
@@ -24,7 +30,7 @@ returns-then-k-eq2 c =
     let a = c.args in
     reply-yes _ _ _ (sym c.if-not-takes.ensures)
     (used-is a.k true _ a.pitch.lag a.pitch.first a.pitch.filter a.history.now _ a.pitch.predictor (takes-fits _ _ _ _ (sym c.if-not-takes.ensures)).good (eq-eqb a.k.channels 2 c.if-k-eq2.true)
-    c.frame_size-n.ensures
+    c.frame_size.ensures
     c.conceal_stereo.ensures)
 
 pub returns-else-k-eq2 : goal.returns-else-k-eq2
@@ -33,5 +39,5 @@ returns-else-k-eq2 c =
     let a = c.args in
     reply-yes _ _ _ (sym c.if-not-takes.ensures)
     (used-is a.k false _ a.pitch.lag a.pitch.first a.pitch.filter a.history.now _ a.pitch.predictor (takes-fits _ _ _ _ (sym c.if-not-takes.ensures)).good (ne_eqb a.k.channels 2 c.if-k-eq2.false)
-    c.frame_size-n.ensures
+    c.frame_size.ensures
     c.conceal_mono.ensures)
