@@ -40,22 +40,23 @@ fn most_recent(new: &[f32]) -> [f32; 24]
     mem
 }
 
-// Fills e with the faded cycle; returns the energy of the history that it stands for.
-fn faded_cycle(
+// Fills e with the filter's input, the faded cycle; returns the filter's memory, and the energy of the history that the cycle stands for.
+fn filter_input(
     e: &mut [f32],
     new: &[f32],
     lag: usize,
     first: bool,
     lpc: &[f32; 24],
-    mem: &[f32; 24],
-) -> f32
+) -> ([f32; 24], f32)
     requires { (length new.now ≡ half) × (0 < lag) × (lag ≤ half) }
-    ensures { (e.new ≡ faded_cycle (length e.old) (celt_fir lpc.now mem.now new.now) lag first)
-        × (result ≡ copied_energy new.now lag (length e.old)) }
+    ensures { (result.0 ≡ recent new.now)
+        × (e.new ≡ faded_cycle (length e.old) (celt_fir lpc.now result.0 new.now) lag first)
+        × (result.1 ≡ copied_energy new.now lag (length e.old)) }
 {
-    let energy = repeat_cycle(e, new, lag, lpc, mem).unwrap();
+    let mem = most_recent(new);
+    let energy = repeat_cycle(e, new, lag, lpc, &mem).unwrap();
     buffers::scale(e, fade_of(first));
-    energy
+    (mem, energy)
 }
 
 #[tactic(auto, using(std::proofs::lemmas::Bool::Decides::nat_tests), unfolding(crate::specs::Extrapolate::extrapolate_takes, periodic_copy::specs::Copy::cycle_takes))]
@@ -80,10 +81,9 @@ pub fn extrapolate(
     if !takes(e.len(), new.len(), lag) {
         return Err(Refused);
     }
-    let mem = most_recent(new);
-    let s1 = faded_cycle(e, new, lag, first, lpc, &mem);
+    let (mem, energy) = filter_input(e, new, lag, first, lpc);
     celt_iir_inplace(e, lpc, &mem)?;
-    energy_guard(e, s1);
+    energy_guard(e, energy);
     Ok(())
 }
 
@@ -109,10 +109,8 @@ pub fn extrapolate_pair(
     if e0.len() != e1.len() || new0.len() != new1.len() || !takes(e0.len(), new0.len(), lag) {
         return Err(Refused);
     }
-    let mem0 = most_recent(new0);
-    let mem1 = most_recent(new1);
-    let s0 = faded_cycle(e0, new0, lag, first, lpc0, &mem0);
-    let s1 = faded_cycle(e1, new1, lag, first, lpc1, &mem1);
+    let (mem0, s0) = filter_input(e0, new0, lag, first, lpc0);
+    let (mem1, s1) = filter_input(e1, new1, lag, first, lpc1);
     celt_iir_pair(e0, e1, lpc0, lpc1, &mem0, &mem1)?;
     energy_guard(e0, s0);
     energy_guard(e1, s1);

@@ -6,25 +6,24 @@ use Rattle.extrapolate.proofs.extrapolate.Goals as goal
 pub returns-then-not-takes : goal.returns-then-not-takes
 returns-then-not-takes c = reply-no _ _ _ (sym c.if-not-takes.ensures) refl
 
-pub most_recent-mem-requires : goal.most_recent-mem-requires
-most_recent-mem-requires c = (takes-fits _ _ _ (sym c.if-not-takes.ensures)).whole
-
-pub faded_cycle-s1-requires : goal.faded_cycle-s1-requires
-faded_cycle-s1-requires c = let f = takes-fits _ _ _ (sym c.if-not-takes.ensures) in (f.whole, f.lag_low, f.lag_high)
+pub filter_input-energy-requires : goal.filter_input-energy-requires
+filter_input-energy-requires c = let f = takes-fits _ _ _ (sym c.if-not-takes.ensures) in (f.whole, f.lag_low, f.lag_high)
 
 pub returns-in_err-celt_iir_inplace : goal.returns-in_err-celt_iir_inplace
 returns-in_err-celt_iir_inplace c =
     let a = c.args in
+    let x = c.filter_input-energy in
     let no : false ≡ true = reply-taken _ _ _ c.in_err-celt_iir_inplace.ensures
-    ∙ iir-takes (length a.e.now) a.new.now a.lpc.now c.most_recent-mem.result _ c.celt_iir_inplace.new.buf _ a.lag a.first _ c.most_recent-mem.ensures c.faded_cycle-s1.ensures refl
+    ∙ iir-takes (length a.e.now) a.new.now a.lpc.now x.result.0 _ c.celt_iir_inplace.new.buf _ a.lag a.first _ x.ensures.0 (x.ensures.1, x.ensures.2) refl
     (takes-fits _ _ _ (sym c.if-not-takes.ensures)).room in
     cc
 
 pub returns : goal.returns
 returns c =
     let a = c.args in
+    let x = c.filter_input-energy in
     reply-yes _ _ _ (sym c.if-not-takes.ensures)
-    (extrapolate_is (length a.e.now) a.new.now a.lpc.now c.most_recent-mem.result _ _ _ a.lag a.first _ c.most_recent-mem.ensures c.faded_cycle-s1.ensures
+    (extrapolate_is (length a.e.now) a.new.now a.lpc.now x.result.0 _ _ _ a.lag a.first _ x.ensures.0 (x.ensures.1, x.ensures.2)
     c.energy_guard.ensures.1
     _
     (takes-fits _ _ _ (sym c.if-not-takes.ensures)).room

@@ -3,7 +3,7 @@ use Rattle.reply.specs.Reply.{value_or, reply-taken}
 use Rattle.buffers.specs.Buffers.{zero32}
 use Rattle.periodic_copy.proofs.Positions.{cycle-takes}
 use Rattle.extrapolate.proofs.Steps.{faded_is}
-use Rattle.extrapolate.proofs.faded_cycle.Goals as goal
+use Rattle.extrapolate.proofs.filter_input.Goals as goal
 
 pub unwrap-energy-requires : goal.unwrap-energy-requires
 unwrap-energy-requires c =
@@ -14,6 +14,6 @@ returns c =
     let a = c.args in
     let r = c.requires in
     let f =
-    faded_is (length a.e.now) a.new.now a.lpc.now a.mem.now a.e.now c.repeat_cycle.new.e _ a.lag a.first _ _ c.fade_of.result r.0 r.1 r.2
+    faded_is (length a.e.now) a.new.now a.lpc.now c.most_recent-mem.result a.e.now c.repeat_cycle.new.e _ a.lag a.first _ _ c.fade_of.result r.0 r.1 r.2
     c.repeat_cycle.ensures c.fade_of.ensures c.scale.ensures in
-    (f.0, sym (ap (value_or zero32) c.unwrap-energy.ensures) ∙ f.1)
+    (c.most_recent-mem.ensures, f.0, sym (ap (value_or zero32) c.unwrap-energy.ensures) ∙ f.1)
