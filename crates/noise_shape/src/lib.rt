@@ -3,7 +3,7 @@
 #![tactic(auto)]
 
 ghost use Rattle.std.specs.Prelude.{◌≡◌, ◌*◌, ◌≤◌, length};
-ghost use Rattle.reply.specs.Reply.{reply, reply_if};
+ghost use Rattle.reply.specs.Reply.{replied, reply_if, value_or};
 ghost use Rattle.draw.specs.Draw.{draws};
 ghost use Rattle.custom_mode.specs.Mode.{bands, last_edge};
 ghost use Rattle.noise_shape.specs.Shape.{band_noise, shaped, noise_shape, shape_takes};
@@ -11,16 +11,10 @@ ghost use Rattle.noise_shape.specs.Shape.{band_noise, shaped, noise_shape, shape
 use band_quant::renormalise_vector;
 use custom_mode::standard::{BANDS, LAST_EDGE, band_edge};
 use draw::noise_fill;
+use reply::Refused;
 
 // The largest block factor.
 pub const FACTOR_MOST: usize = 8;
-
-// Whether settings and lengths fitted, and the seed.
-#[derive(Clone, Copy)]
-pub struct Shaped {
-    pub taken: bool,
-    pub seed: u32,
-}
 
 fn band_noise(part: &mut [f32], seed: u32) -> u32
     ensures { (result ≡ draws (length part.old) seed) × (part.new ≡ band_noise (length part.old) seed) }
@@ -31,6 +25,7 @@ fn band_noise(part: &mut [f32], seed: u32) -> u32
 }
 
 // Every band from start to the last is drawn, though the end band may be lower: the seed moves on by all of them.
+#[tactic(auto, using(crate::proofs::Calls::ends))]
 fn shape_each(bins: &mut [f32], m: usize, start: usize, seed: u32) -> u32
     requires { (m ≤ 8) × (start ≤ bands) × (m * last_edge ≤ length bins.old) }
     ensures { (result ≡ (noise_shape m start seed bins.old).seed) × (bins.new ≡ (noise_shape m start seed bins.old).bins) }
@@ -48,30 +43,17 @@ fn shape_each(bins: &mut [f32], m: usize, start: usize, seed: u32) -> u32
 fn shape_fits(m: usize, start: usize, size: usize) -> bool
     ensures { result ≡ shape_takes m start size }
 {
-    if FACTOR_MOST < m {
-        return false;
-    }
-    if BANDS < start {
-        return false;
-    }
-    m * LAST_EDGE <= size
+    m <= FACTOR_MOST && start <= BANDS && m * LAST_EDGE <= size
 }
 
-// Noise over the bins lent, at block factor m, and the seed after all draws. Refused, with bins and seed as lent: a factor
+// Noise over the bins lent, at block factor m: answers the seed after all draws. Refused, with the bins as lent: a factor
 // above 8, a start above 21, fewer than 100 m bins.
-pub fn noise_shape(bins: &mut [f32], m: usize, start: usize, seed: u32) -> Shaped
-    ensures { reply result.taken (shaped bins.new result.seed)
+pub fn noise_shape(bins: &mut [f32], m: usize, start: usize, seed: u32) -> Result<u32, Refused>
+    ensures { replied result (shaped bins.new (value_or seed result))
         ≡ reply_if (shape_takes m start (length bins.old)) (noise_shape m start seed bins.old) (shaped bins.old seed) }
 {
-    if shape_fits(m, start, bins.len()) {
-        let s = shape_each(bins, m, start, seed);
-        return Shaped {
-            taken: true,
-            seed: s,
-        };
+    if !shape_fits(m, start, bins.len()) {
+        return Err(Refused);
     }
-    Shaped {
-        taken: false,
-        seed: seed,
-    }
+    Ok(shape_each(bins, m, start, seed))
 }

@@ -1,20 +1,12 @@
-use borrow.Author.Tests.{lt-leb, le-leb}
+use native.Mathlib.Omega.{arith}
+use Rattle.std.proofs.lemmas.Bool.Decides.{nat_tests}
 use Rattle.noise_shape.specs.Shape.{shape_takes}
 use Rattle.noise_shape.proofs.shape_fits.Goals as goal
 
-pub returns-then-m-gt-FACTOR_MOST : goal.returns-then-m-gt-FACTOR_MOST
+pub returns-then-start-le-BANDS : goal.returns-then-start-le-BANDS
 unfolding shape_takes
-returns-then-m-gt-FACTOR_MOST c =
-    rw (lt-leb c.args.m 8 c.if-m-gt-FACTOR_MOST.true)
+returns-then-start-le-BANDS c = grind (arith, nat_tests)
 
-pub returns-then-start-gt-BANDS : goal.returns-then-start-gt-BANDS
+pub returns-else-start-le-BANDS : goal.returns-else-start-le-BANDS
 unfolding shape_takes
-returns-then-start-gt-BANDS c =
-    let a = c.args in
-    rw (le-leb a.m 8 c.if-m-gt-FACTOR_MOST.false, lt-leb a.start 21 c.if-start-gt-BANDS.true)
-
-pub returns : goal.returns
-unfolding shape_takes
-returns c =
-    let a = c.args in
-    rw (le-leb a.m 8 c.if-m-gt-FACTOR_MOST.false, le-leb a.start 21 c.if-start-gt-BANDS.false)
+returns-else-start-le-BANDS c = grind (arith, nat_tests)
