@@ -1,7 +1,7 @@
 -- What a call that fits leaves, and one that does not.
-use mathlib.Core.Path.{◌≡◌, ap, ap₂}
+use mathlib.Core.Path.{◌≡◌, ap, ap₂, ◌∙◌, sym}
 use mathlib.Core.List.{List}
-use mathlib.Core.Bool.{Bool, true, ◌&&◌}
+use mathlib.Core.Bool.{true, ◌&&◌}
 use Prim.Native.Nat.{ℕ, ◌+◌, ◌*◌, ◌≤◌, ◌<◌}
 use native.Mathlib.Omega.{arith}
 use lib.ListN.{length}
@@ -10,7 +10,9 @@ use lib.Ieee.{Float}
 use borrow.Author.Tests.{leb-true, le-leb}
 use Rattle.custom_mode.specs.Mode.{edge}
 use Rattle.loops.specs.Logic.{and-true}
-use Rattle.reply.specs.Reply.{Reply, reply, reply_if, reply-lent}
+use Rattle.std.specs.Prelude.{Result, Ok, Err, is_ok}
+use Rattle.reply.specs.declared.Refused.{Refused}
+use Rattle.reply.specs.Reply.{Reply, replied, value_or, reply_if, reply-lent, reply-taken}
 use Rattle.noise_shape.specs.Shape.{lo, band_in, Shape, shaped, noise_shape, shape_takes}
 
 pub fits : (m start size : ℕ) → shape_takes m start size ≡ true → (m ≤ 8) × (start ≤ 21) × (m * 100 ≤ size)
@@ -32,11 +34,18 @@ module _ (m start seed : ℕ) (bins : List Float) where
   abbrev shape-reply : Reply Shape
   shape-reply = reply_if (shape_takes m start (length bins)) (noise_shape m start seed bins) (shaped bins seed)
 
-  pub shape-left : {t : Bool} {y : List Float} {s : ℕ} → m ≤ 8 → start ≤ 21 → m * 100 ≤ length bins → reply t (shaped y s) ≡ shape-reply
+  -- what a call that fits leaves
+  pub shape-left : {r : Result ℕ Refused} {s : ℕ} {y : List Float} → m ≤ 8 → start ≤ 21 → m * 100 ≤ length bins
+      → replied r (shaped y (value_or seed r)) ≡ shape-reply → r ≡ Ok s
       → (s ≡ (noise_shape m start seed bins).seed) × (y ≡ (noise_shape m start seed bins).bins)
-  shape-left h k l e =
-      let q = reply-lent _ _ _ e (takes m start (length bins) h k l) in
-      (ap (λ (x : Shape). x.seed) q, ap (λ (x : Shape). x.bins) q)
+  shape-left h k l q e =
+      let p = reply-lent _ _ _ q (takes m start (length bins) h k l) in
+      (ap (value_or seed) (sym e) ∙ ap (λ (x : Shape). x.seed) p, ap (λ (x : Shape). x.bins) p)
+
+  -- a call that fits is not refused
+  pub shape-takes : {r : Result ℕ Refused} {e : Refused} {y : Shape} → m ≤ 8 → start ≤ 21 → m * 100 ≤ length bins → replied r y ≡ shape-reply
+      → r ≡ Err e → ⊥
+  shape-takes h k l q e = let t = sym (ap is_ok e) ∙ reply-taken _ _ _ q ∙ takes m start (length bins) h k l in (cc)
 
 -- band i starts within the bins
 pub begins : (m i a : ℕ) → a ≡ edge i → i < 21 → m * a ≤ m * 100

@@ -1,17 +1,18 @@
 -- What the functions that call others rest on.
-use mathlib.Core.Path.{◌≡◌, refl, ap, ap₂, ◌∙◌}
+use mathlib.Core.Path.{◌≡◌, ap, ap₂, ◌∙◌}
 use mathlib.Core.List.{List, [], ◌++◌, append-nil}
-use mathlib.Core.Bool.{Bool, true, false, ◌&&◌}
+use mathlib.Core.Bool.{Bool, true, ◌&&◌}
 use Prim.Native.Nat.{ℕ, ◌*◌, ◌-◌, ◌≤◌}
 use native.Mathlib.Omega.{arith}
 use lib.ListN.{length, take, drop, replicate, length-drop, drop_of_length-le}
 use lib.Seq.{length-take-le}
 use lib.Dec.{leb, eqb}
 use lib.Ieee.{Float}
-use borrow.Author.Tests.{leb-true, le-leb, eq-eqb, ne_eqb}
+use borrow.Author.Tests.{leb-true, le-leb, eq-eqb}
+use Rattle.std.proofs.Common.{eqb-true}
 use Rattle.loops.specs.Fold.{fold_range}
-use Rattle.loops.specs.Logic.{and-true, and_first, and_second}
-use Rattle.reply.specs.Reply.{reply, reply_if, reply-lent, reply-yes, reply-no}
+use Rattle.loops.specs.Logic.{and-true}
+use Rattle.reply.specs.Reply.{reply, reply_if, reply-lent}
 use Rattle.buffers.specs.Buffers.{zero32}
 use Rattle.noise_shape.specs.Shape.{Shape, shaped, noise_shape}
 use Rattle.noise_spectrum.specs.Spectrum.{gain_turn, bound, cleared, spectrum, spectrum_over, spectrum_fits, spectrum_takes}
@@ -63,35 +64,16 @@ fits m start end d e =
     let r = and-true (leb end 21) _ q.1 in
     record { small = leb-true m 8 p.0; some = leb-true start end q.0; last = leb-true end 21 r.0; every = leb-true 1 d r.1 }
 
-module _ (m start end d seed : ℕ) (energies bins : List Float) where
-  abbrev spectrum-fits : Bool
-  spectrum-fits = spectrum_takes m start end d (length energies) (length bins)
+pub takes : (m start end d k n : ℕ) → spectrum_takes m start end d k n ≡ true → Fits m start end d × (k ≡ 25) × (n ≡ 120 * m)
+unfolding spectrum_takes
+takes m start end d k n e =
+    let p = and-true (spectrum_fits m start end d) _ e in
+    let q = and-true (eqb k 25) _ p.1 in
+    (fits m start end d p.0, eqb-true k 25 q.0, eqb-true n (120 * m) q.1)
 
-  abbrev drawn : Shape
-  drawn = spectrum_over m start end d seed energies bins
-
-  takes : spectrum_fits m start end d ≡ true → length energies ≡ 25 → length bins ≡ 120 * m → spectrum-fits ≡ true
-  unfolding spectrum_takes
-  takes f l b = ap₂ ◌&&◌ f (ap₂ ◌&&◌ (eq-eqb (length energies) 25 l) (eq-eqb (length bins) (120 * m) b))
-
-  pub spectrum-taken : (s : ℕ) (y : List Float) → spectrum_fits m start end d ≡ true → length energies ≡ 25 → length bins ≡ 120 * m
-      → s ≡ drawn.seed → y ≡ drawn.bins → reply true (shaped y s) ≡ reply_if spectrum-fits drawn (shaped bins seed)
-  spectrum-taken s y f l b es ey = reply-yes _ _ _ (takes f l b) (ap₂ shaped ey es)
-
-  refused : spectrum-fits ≡ false → reply false (shaped bins seed) ≡ reply_if spectrum-fits drawn (shaped bins seed)
-  refused e = reply-no _ _ _ e refl
-
-  pub spectrum_unfit : spectrum_fits m start end d ≡ false → reply false (shaped bins seed) ≡ reply_if spectrum-fits drawn (shaped bins seed)
-  unfolding spectrum_takes
-  spectrum_unfit f = refused (and_first (spectrum_fits m start end d) _ f)
-
-  pub spectrum-bands : (length energies ≡ 25 → ⊥) → reply false (shaped bins seed) ≡ reply_if spectrum-fits drawn (shaped bins seed)
-  unfolding spectrum_takes
-  spectrum-bands f = refused (and_second (spectrum_fits m start end d) _ (and_first _ _ (ne_eqb (length energies) 25 f)))
-
-  pub spectrum-size : (length bins ≡ 120 * m → ⊥) → reply false (shaped bins seed) ≡ reply_if spectrum-fits drawn (shaped bins seed)
-  unfolding spectrum_takes
-  spectrum-size f = refused (and_second (spectrum_fits m start end d) _ (and_second (eqb (length energies) 25) _ (ne_eqb (length bins) (120 * m) f)))
+takes-is : (m start end d k n : ℕ) → spectrum_fits m start end d ≡ true → k ≡ 25 → n ≡ 120 * m → spectrum_takes m start end d k n ≡ true
+unfolding spectrum_takes
+takes-is m start end d k n f l b = ap₂ ◌&&◌ f (ap₂ ◌&&◌ (eq-eqb k 25 l) (eq-eqb n (120 * m) b))
 
 -- what a call that fits leaves over zeros
 module _ (m start end d seed : ℕ) (energies bins : List Float) (f : Fits m start end d) (l : length energies ≡ 25) (b : length bins ≡ 120 * m) where
@@ -105,6 +87,6 @@ module _ (m start end d seed : ℕ) (energies bins : List Float) (f : Fits m sta
       → bins ≡ replicate (120 * m) zero32
       → (y ≡ spectrum m start end d seed energies) × (s ≡ (noise_shape m start seed (replicate (120 * m) zero32)).seed)
   spectrum-left e z =
-      let q = reply-lent _ _ _ e (takes m start end d seed energies bins all_fit l b) in
+      let q = reply-lent _ _ _ e (takes-is m start end d _ _ all_fit l b) in
       let o = over_zeros m start end d seed energies bins z in
       (ap (λ (x : Shape). x.bins) q ∙ o.0, ap (λ (x : Shape). x.seed) q ∙ o.1)

@@ -3,23 +3,33 @@
 #![tactic(auto)]
 
 ghost use Rattle.std.specs.Prelude.{◌≡◌, ◌*◌, ◌≤◌, length};
-ghost use Rattle.custom_mode.specs.Mode.{short_block, bands, max_bands, last_edge};
+ghost use Rattle.custom_mode.specs.Mode.{bands, max_bands, last_edge};
 ghost use Rattle.loops.specs.Fold.{fold_range};
-ghost use Rattle.reply.specs.Reply.{reply, reply_if};
+ghost use Rattle.reply.specs.Reply.{replied, reply_if, value_or};
 ghost use Rattle.noise_shape.specs.Shape.{shaped};
 ghost use Rattle.noise_spectrum.specs.Spectrum.{gain_turn, bound, spectrum_over, spectrum_fits, spectrum_takes};
 
 use band_gain::band_gain;
-use buffers::{fill, scale};
+use buffers::scale;
 use custom_mode::standard::{BANDS, MAX_BANDS, SHORT_BLOCK, band_edge, mean_energy};
-use noise_shape::{FACTOR_MOST, Shaped, noise_shape};
+use noise_shape::{FACTOR_MOST, noise_shape};
+use reply::Refused;
 
-// Each band from start to just below end, times its gain.
-fn apply_gains(bins: &mut [f32], m: usize, start: usize, end: usize, energies: &[f32])
-    requires { (m ≤ 8) × (start ≤ end) × (end ≤ bands) × (m * last_edge ≤ length bins.old) × (length energies.now ≡ max_bands) }
-    ensures { bins.new ≡ fold_range (gain_turn m energies.now) bins.old start end }
+// The bands that are drawn, from start to just below end, and what the output's rate is divided by.
+#[derive(Clone, Copy)]
+pub struct Span {
+    pub start: usize,
+    pub end: usize,
+    pub downsample: usize,
+}
+
+// Each band of the span, times its gain.
+#[tactic(auto, using(noise_shape::proofs::Calls::ends))]
+fn apply_gains(bins: &mut [f32], m: usize, span: Span, energies: &[f32])
+    requires { (m ≤ 8) × (span.start ≤ span.end) × (span.end ≤ bands) × (m * last_edge ≤ length bins.old) × (length energies.now ≡ max_bands) }
+    ensures { bins.new ≡ fold_range (gain_turn m energies.now) bins.old span.start span.end }
 {
-    for i in start..end {
+    for i in span.start..span.end {
         let g = band_gain(energies[i], mean_energy(i));
         let a = m * band_edge(i);
         let e = m * band_edge(i + 1);
@@ -28,86 +38,50 @@ fn apply_gains(bins: &mut [f32], m: usize, start: usize, end: usize, energies: &
 }
 
 // Where the spectrum ends.
-fn bound_of(m: usize, end: usize, downsample: usize) -> usize
-    requires { (m ≤ 8) × (end ≤ bands) × (1 ≤ downsample) }
-    ensures { (result ≡ bound m end downsample) × (result ≤ m * last_edge) }
+fn bound_of(m: usize, span: Span) -> usize
+    requires { (m ≤ 8) × (span.end ≤ bands) × (1 ≤ span.downsample) }
+    ensures { (result ≡ bound m span.end span.downsample) × (result ≤ m * last_edge) }
 {
-    let edge = m * band_edge(end);
-    let part = SHORT_BLOCK * m / downsample;
-    if downsample != 1 {
-        if part < edge {
-            return part;
-        }
+    let edge = m * band_edge(span.end);
+    let part = SHORT_BLOCK * m / span.downsample;
+    if span.downsample != 1 && part < edge {
+        part
+    } else {
+        edge
     }
-    edge
-}
-
-// The spectrum over the bins lent, and the seed after all draws.
-fn fill_spectrum(
-    bins: &mut [f32],
-    m: usize,
-    start: usize,
-    end: usize,
-    downsample: usize,
-    seed: u32,
-    energies: &[f32],
-) -> u32
-    requires { (m ≤ 8) × (start ≤ end) × (end ≤ bands) × (1 ≤ downsample) × (length bins.old ≡ short_block * m) × (length energies.now ≡ max_bands) }
-    ensures { (result ≡ (spectrum_over m start end downsample seed energies.now bins.old).seed)
-        × (bins.new ≡ (spectrum_over m start end downsample seed energies.now bins.old).bins) }
-{
-    let s = noise_shape(bins, m, start, seed);
-    apply_gains(bins, m, start, end, energies);
-    let b = bound_of(m, end, downsample);
-    fill(&mut bins[b..], 0.0);
-    s.seed
 }
 
 // A block factor of at most 8, end at least start and at most 21, and a factor of downsampling.
-fn spectrum_fits(m: usize, start: usize, end: usize, downsample: usize) -> bool
-    ensures { result ≡ spectrum_fits m start end downsample }
+fn spectrum_fits(m: usize, span: Span) -> bool
+    ensures { result ≡ spectrum_fits m span.start span.end span.downsample }
 {
-    if FACTOR_MOST < m {
-        return false;
-    }
-    if end < start {
-        return false;
-    }
-    if BANDS < end {
-        return false;
-    }
-    1 <= downsample
+    m <= FACTOR_MOST && span.start <= span.end && span.end <= BANDS && 1 <= span.downsample
 }
 
-// A channel's spectrum from its 25 energies, over 120 m bins, which come as zeros.
+// With so many energies and so many bins lent.
+fn spectrum_takes(m: usize, span: Span, energies: usize, size: usize) -> bool
+    ensures { result ≡ spectrum_takes m span.start span.end span.downsample energies size }
+{
+    spectrum_fits(m, span) && energies == MAX_BANDS && size == SHORT_BLOCK * m
+}
+
+// A channel's spectrum from its 25 energies, over 120 m bins, which come as zeros: answers the seed after all draws.
 pub fn noise_spectrum(
     bins: &mut [f32],
     m: usize,
-    start: usize,
-    end: usize,
-    downsample: usize,
+    span: Span,
     seed: u32,
     energies: &[f32],
-) -> Shaped
-    ensures { reply result.taken (shaped bins.new result.seed)
-        ≡ reply_if (spectrum_takes m start end downsample (length energies.now) (length bins.old))
-        (spectrum_over m start end downsample seed energies.now bins.old) (shaped bins.old seed) }
+) -> Result<u32, Refused>
+    ensures { replied result (shaped bins.new (value_or seed result))
+        ≡ reply_if (spectrum_takes m span.start span.end span.downsample (length energies.now) (length bins.old))
+        (spectrum_over m span.start span.end span.downsample seed energies.now bins.old) (shaped bins.old seed) }
 {
-    let size = bins.len();
-    let bands = energies.len();
-    if spectrum_fits(m, start, end, downsample) {
-        if bands == MAX_BANDS {
-            if size == SHORT_BLOCK * m {
-                let s = fill_spectrum(bins, m, start, end, downsample, seed, energies);
-                return Shaped {
-                    taken: true,
-                    seed: s,
-                };
-            }
-        }
+    if !spectrum_takes(m, span, energies.len(), bins.len()) {
+        return Err(Refused);
     }
-    Shaped {
-        taken: false,
-        seed: seed,
-    }
+    let after = noise_shape(bins, m, span.start, seed)?;
+    apply_gains(bins, m, span, energies);
+    bins[bound_of(m, span)..].fill(0.0);
+    Ok(after)
 }

@@ -1,29 +1,23 @@
+-- Each band lies within the bins; a band times its gain is one more turn.
 use mathlib.Core.Path.{◌≡◌, ap, ap₂, ◌∙◌, sym}
 use Prim.Native.Nat.{◌+◌, ◌-◌, ◌*◌}
 use native.Mathlib.Omega.{arith}
-use lib.ListN.{length, get_or}
-use borrow.Author.Rules.{rules}
-use Rattle.noise_shape.specs.Shape.{lo, band_in}
-use Rattle.noise_shape.proofs.Calls.{ends}
-use Rattle.noise_spectrum.specs.Spectrum.{gain_of_band, gain_turn}
-use Rattle.loops.specs.Fold.{fold_range, range_none}
-use Rattle.noise_spectrum.proofs.Laws.{gains_more}
+use lib.ListN.{get_or}
 use lib.Ieee.{nan, binary32, add}
+use borrow.Author.Rules.{rules}
+use Rattle.loops.specs.Fold.{fold_range, range_none}
 use Rattle.band_gain.specs.Gain.{gain_of}
-use borrow.Rule.Slice.PartMut.{mid_of, mid_len, same_len_mid}
+use Rattle.noise_shape.specs.Shape.{lo}
+use Rattle.noise_shape.proofs.Calls.{begins, ends}
+use Rattle.noise_spectrum.specs.Spectrum.{gain_of_band, gain_turn}
+use Rattle.noise_spectrum.proofs.Laws.{gains_more}
 use Rattle.noise_spectrum.proofs.apply_gains.Goals as goal
 
 pub loop-i-init : goal.loop-i-init
-loop-i-init c =
-    (search rules, search rules, search rules, sym (range_none _ _ _ _ (omega arith)))
+loop-i-init c = sym (range_none _ _ _ _ (omega arith))
 
 pub overflow_mul-a : goal.overflow_mul-a
-overflow_mul-a c =
-    let i = c.loop-i.i in
-    let m = c.args.m in
-    let e : m * c.band_edge.result ≡ lo m i = ap (λ z. m * z) c.band_edge.ensures in
-    let v = band_in m i (omega arith) in
-    search rules
+overflow_mul-a c = let v = begins c.args.m c.loop-i.i _ c.band_edge.ensures (omega arith) in search rules
 
 pub overflow_mul-e : goal.overflow_mul-e
 overflow_mul-e c =
@@ -33,14 +27,6 @@ pub offset_bounds-bins-a : goal.offset_bounds-bins-a
 offset_bounds-bins-a c =
     let v = ends c.args.m c.loop-i.i _ _ c.band_edge.ensures c.band_edge-in-loop-i.ensures (omega arith) in search rules
 
-pub slice_bounds-scale-count : goal.slice_bounds-scale-count
-slice_bounds-scale-count c =
-    let v = ends c.args.m c.loop-i.i _ _ c.band_edge.ensures c.band_edge-in-loop-i.ensures (omega arith) in search rules
-
-pub slice_bounds-scale-start : goal.slice_bounds-scale-start
-slice_bounds-scale-start c =
-    let v = ends c.args.m c.loop-i.i _ _ c.band_edge.ensures c.band_edge-in-loop-i.ensures (omega arith) in search rules
-
 pub slice_bounds-scale-end : goal.slice_bounds-scale-end
 slice_bounds-scale-end c =
     let v = ends c.args.m c.loop-i.i _ _ c.band_edge.ensures c.band_edge-in-loop-i.ensures (omega arith) in search rules
@@ -48,28 +34,21 @@ slice_bounds-scale-end c =
 pub loop-i-preserved : goal.loop-i-preserved
 unfolding gain_of_band
 loop-i-preserved c =
-    let n = c.scale in
     let h = c.loop-i in
     let a = c.args in
     let m = a.m in
     let s = m * c.band_edge.result in
     let e = m * c.band_edge-in-loop-i.result in
-    let v = ends c.args.m c.loop-i.i _ _ c.band_edge.ensures c.band_edge-in-loop-i.ensures (omega arith) in
     let es : s ≡ lo m h.i = ap (λ z. m * z) c.band_edge.ensures in
     let ee : e ≡ lo m (h.i + 1) = ap (λ z. m * z) c.band_edge-in-loop-i.ensures in
-    let z : length (mid_of s (e - s) h.bins) ≡ e - s = mid_len s e h.bins (omega arith) in
     let g : c.band_gain-g.result ≡ gain_of_band a.energies.now h.i =
-    c.band_gain-g.ensures ∙ ap (λ x. gain_of (add binary32 (get_or a.energies.now h.i nan) x)) c.mean_energy.ensures in (
-      search rules,
-      search rules,
-      same_len_mid s (e - s) h.bins n.new.x n.auto.x ∙ h.invariant.2,
-      gains_more m a.start h.i (e - s) s c.band_gain-g.result a.energies.now a.bins.now h.bins n.new.x
-          h.invariant.3 h.invariant.0 es (ap₂ ◌-◌ ee es) g n.ensures,
-    )
+    c.band_gain-g.ensures ∙ ap (λ x. gain_of (add binary32 (get_or a.energies.now h.i nan) x)) c.mean_energy.ensures in
+    gains_more m a.span.start h.i (e - s) s c.band_gain-g.result a.energies.now a.bins.now h.bins c.scale.new.x
+    h.invariant (search rules) es (ap₂ ◌-◌ ee es) g c.scale.ensures
 
 pub returns : goal.returns
 returns c =
     let h = c.loop-i in
     let a = c.args in
-    let e : h.i ≡ a.end = omega arith in
-    h.invariant.3 ∙ ap (fold_range (gain_turn a.m a.energies.now) a.bins.now a.start) e
+    let e : h.i ≡ a.span.end = omega arith in
+    h.invariant ∙ ap (fold_range (gain_turn a.m a.energies.now) a.bins.now a.span.start) e

@@ -1,4 +1,5 @@
 use mathlib.Core.Path.{◌≡◌, ap}
+use mathlib.Core.Logic.{inl, inr}
 use Prim.Native.Nat.{◌*◌}
 use native.Mathlib.Omega.{arith}
 use borrow.Author.Rules.{rules}
@@ -8,22 +9,21 @@ use Rattle.noise_spectrum.proofs.bound_of.Goals as goal
 
 pub overflow_mul-edge : goal.overflow_mul-edge
 overflow_mul-edge c =
-    let a = c.args in
-    let e : a.m * c.band_edge.result ≡ lo a.m a.end = ap (λ z. a.m * z) c.band_edge.ensures in
-    let l = lo-in a.m a.end (omega arith) in
+    let m = c.args.m in
+    let e : m * c.band_edge.result ≡ lo m c.args.span.end = ap (λ z. m * z) c.band_edge.ensures in
+    let l = lo-in m c.args.span.end (omega arith) in
     search rules
 
 pub returns-then-part-edge : goal.returns-then-part-edge
 returns-then-part-edge c =
-    let a = c.args in
-    bound-part a.m a.end a.downsample _ (ap (λ z. a.m * z) c.band_edge.ensures) (omega arith) c.if-downsample-ne1.true c.if-part-edge.true
+    let m = c.args.m in
+    bound-part m c.args.span.end c.args.span.downsample _ (ap (λ z. m * z) c.band_edge.ensures) (omega arith) c.if-span-ne1.true c.if-part-edge.true
 
-pub returns-else-part-edge : goal.returns-else-part-edge
-returns-else-part-edge c =
-    let a = c.args in
-    bound-far a.m a.end a.downsample _ (ap (λ z. a.m * z) c.band_edge.ensures) (omega arith) c.if-downsample-ne1.true c.if-part-edge.false
-
-pub returns-else-downsample-ne1 : goal.returns-else-downsample-ne1
-returns-else-downsample-ne1 c =
-    let a = c.args in
-    bound-one a.m a.end a.downsample _ (ap (λ z. a.m * z) c.band_edge.ensures) (omega arith) c.if-downsample-ne1.false
+pub returns-else-span-ne1 : goal.returns-else-span-ne1
+returns-else-span-ne1 c =
+    let m = c.args.m in
+    let s = c.args.span in
+    elim c.else-span-ne1.either [
+      | inl h ↦ bound-far m s.end s.downsample _ (ap (λ z. m * z) c.band_edge.ensures) (omega arith) h.0 h.1
+      | inr h ↦ bound-one m s.end s.downsample _ (ap (λ z. m * z) c.band_edge.ensures) (omega arith) h
+    ]

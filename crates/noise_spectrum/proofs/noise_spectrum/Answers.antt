@@ -1,38 +1,58 @@
-use mathlib.Core.Path.{◌∙◌, sym}
+use mathlib.Core.Path.{◌≡◌, refl, ap₂, ◌∙◌, sym}
+use Prim.Native.Nat.{◌-◌}
 use native.Mathlib.Omega.{arith}
-use Rattle.noise_spectrum.proofs.Calls.{fits, spectrum-taken, spectrum_unfit, spectrum-bands, spectrum-size}
+use lib.ListN.{length, take, drop, replicate}
+use borrow.Author.Rules.{rules}
+use Rattle.reply.specs.Reply.{reply-yes, reply-no}
+use Rattle.buffers.specs.Buffers.{zero32}
+use Rattle.noise_shape.specs.Shape.{shaped}
+use Rattle.noise_shape.proofs.Calls.{shape-left, shape-takes}
+use Rattle.noise_spectrum.proofs.Calls.{takes, spectrum-is, seed_is}
 use Rattle.noise_spectrum.proofs.noise_spectrum.Goals as goal
 
-pub overflow_mul-m : goal.overflow_mul-m
-overflow_mul-m c =
-    let a = c.args in
-    let f = fits a.m a.start a.end a.downsample (sym c.spectrum_fits.ensures ∙ c.if-spectrum_fits.true) in
-    record { fits = omega (arith, f.small) }
+pub returns-then-not-spectrum_takes : goal.returns-then-not-spectrum_takes
+returns-then-not-spectrum_takes c = reply-no _ _ _ (sym c.spectrum_takes.ensures ∙ c.if-not-spectrum_takes.true) refl
 
-pub fill_spectrum-s-requires : goal.fill_spectrum-s-requires
-fill_spectrum-s-requires c =
-    let a = c.args in
-    let f = fits a.m a.start a.end a.downsample (sym c.spectrum_fits.ensures ∙ c.if-spectrum_fits.true) in
-    (f.small, f.some, f.last, f.every, c.if-size-m.true, c.if-bands-eq-MAX_BANDS.true)
+pub returns-in_err-after : goal.returns-in_err-after
+returns-in_err-after c =
+    let f = takes c.args.m _ _ _ _ _ (sym c.spectrum_takes.ensures ∙ c.if-not-spectrum_takes.false) in
+    absurd (shape-takes _ _ _ _ f.0.small (omega (arith, f)) (omega (arith, f)) c.noise_shape.ensures c.in_err-after.was)
 
-pub returns-then-size-m : goal.returns-then-size-m
-returns-then-size-m c =
-    let a = c.args in
-    let r = c.fill_spectrum-s in
-    spectrum-taken a.m a.start a.end a.downsample a.seed a.energies.now a.bins.now r.result r.new.bins
-    (sym c.spectrum_fits.ensures ∙ c.if-spectrum_fits.true) c.if-bands-eq-MAX_BANDS.true c.if-size-m.true r.ensures.0 r.ensures.1
+pub apply_gains-requires : goal.apply_gains-requires
+apply_gains-requires c =
+    let f = takes c.args.m _ _ _ _ _ (sym c.spectrum_takes.ensures ∙ c.if-not-spectrum_takes.false) in
+    search rules
 
-pub returns-else-size-m : goal.returns-else-size-m
-returns-else-size-m c =
-    let a = c.args in
-    spectrum-size a.m a.start a.end a.downsample a.seed a.energies.now a.bins.now c.if-size-m.false
+pub bound_of-requires : goal.bound_of-requires
+bound_of-requires c =
+    let f = takes c.args.m _ _ _ _ _ (sym c.spectrum_takes.ensures ∙ c.if-not-spectrum_takes.false) in
+    search rules
 
-pub returns-else-bands-eq-MAX_BANDS : goal.returns-else-bands-eq-MAX_BANDS
-returns-else-bands-eq-MAX_BANDS c =
-    let a = c.args in
-    spectrum-bands a.m a.start a.end a.downsample a.seed a.energies.now a.bins.now c.if-bands-eq-MAX_BANDS.false
+pub slice_bounds-fill-count : goal.slice_bounds-fill-count
+slice_bounds-fill-count c =
+    let f = takes c.args.m _ _ _ _ _ (sym c.spectrum_takes.ensures ∙ c.if-not-spectrum_takes.false) in
+    search rules
 
-pub returns-else-spectrum_fits : goal.returns-else-spectrum_fits
-returns-else-spectrum_fits c =
+pub slice_bounds-fill-start : goal.slice_bounds-fill-start
+slice_bounds-fill-start c =
+    let f = takes c.args.m _ _ _ _ _ (sym c.spectrum_takes.ensures ∙ c.if-not-spectrum_takes.false) in
+    search rules
+
+pub offset_bounds-bins-bound_of : goal.offset_bounds-bins-bound_of
+offset_bounds-bins-bound_of c =
+    let f = takes c.args.m _ _ _ _ _ (sym c.spectrum_takes.ensures ∙ c.if-not-spectrum_takes.false) in
+    search rules
+
+pub returns : goal.returns
+returns c =
     let a = c.args in
-    spectrum_unfit a.m a.start a.end a.downsample a.seed a.energies.now a.bins.now (sym c.spectrum_fits.ensures ∙ c.if-spectrum_fits.false)
+    let t = sym c.spectrum_takes.ensures ∙ c.if-not-spectrum_takes.false in
+    let f = takes a.m _ _ _ _ _ t in
+    let z = shape-left a.m a.span.start a.seed a.bins.now f.0.small (omega (arith, f)) (omega (arith, f)) c.noise_shape.ensures c.in_ok-after.was in
+    let g = c.apply_gains.new.bins in
+    let y : c.fill.new.self ≡ replicate (length (take (length g - c.bound_of.result) (drop c.bound_of.result g))) zero32 = search rules in
+    reply-yes _ _ _ t
+    (ap₂ shaped
+    (spectrum-is a.m a.span.start a.span.end a.span.downsample a.seed c.bound_of.result a.energies.now a.bins.now _ g _
+    z.1 c.apply_gains.ensures c.bound_of.ensures.0 (omega (arith, f)) y)
+    (seed_is a.m a.span.start a.span.end a.span.downsample a.seed _ a.energies.now a.bins.now z.0))
