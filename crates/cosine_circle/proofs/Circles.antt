@@ -2,12 +2,13 @@
 use mathlib.Core.Path.{◌≡◌, ap, ◌∙◌, sym}
 use mathlib.Core.Bool.{true, false}
 use mathlib.Core.List.{List}
-use Prim.Native.Nat.{ℕ, ◌+◌, ◌*◌, ◌/◌}
+use Prim.Native.Nat.{ℕ, ◌+◌, ◌*◌, ◌/◌, ◌≤◌, ◌<◌}
 use native.Mathlib.Omega.{arith}
 use lib.ListN.{get_or, drop, get_or-append}
 use lib.Ieee.{Float, nan}
 use Rattle.loops.specs.Front.{front, tab, length-tab, get_or-tab}
 use Rattle.loops.specs.Pick.{pick_true, pick-false}
+use Rattle.cosine_circle.proofs.Sizes.{sized, at_least, at_most, per_most, parts-most}
 use Rattle.cosine_circle.specs.Circle.{cos_at, is_frame_size, no_cosines, circle_of, IsCircle}
 
 pub circle_none : (n : ℕ) → is_frame_size n ≡ false → no_cosines ≡ circle_of n
@@ -30,3 +31,11 @@ circle_is n e = record {
       ∙ get_or-append (tab f (4 * n)) (drop (4 * n) no_cosines) nan i (omega (arith, length-tab f (4 * n)))
       ∙ get_or-tab f (4 * n) i nan h;
 }
+
+-- the numbers of a frame size n
+pub known : (n : ℕ) → is_frame_size n ≡ true → (120 ≤ n) × (n ≤ 960) × (960 / n ≤ 8)
+known n f = let z = sized n f in (at_least _ z, at_most _ z, per_most _ z)
+
+-- and of its place i
+pub place_known : (n i : ℕ) → is_frame_size n ≡ true → i < 4 * n → (n ≤ 960) × (960 / n * (2 * i + 1) ≤ 7680)
+place_known n i f h = let z = sized n f in (at_most _ z, parts-most _ z i h)

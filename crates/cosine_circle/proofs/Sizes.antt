@@ -68,3 +68,7 @@ module _ (n : ℕ) (z : Size n) where
 -- from one multiple of 8 below another to the next
 pub next_eight : (t m : ℕ) → t % 8 ≡ 0 → m % 8 ≡ 0 → t < m → t + 8 ≤ m
 next_eight t m e f h = let q : t / 8 < m / 8 = omega arith in omega arith
+
+-- no frame is longer
+pub few : (n : ℕ) → is_frame_size n ≡ true → n ≤ 960
+few n f = at_most _ (sized _ f)

@@ -8,7 +8,13 @@ ghost use Rattle.cosine_circle.specs.Circle.{cos_at, is_frame_size, circle_of};
 
 use cosine_table::cosines;
 
+// The shortest frame and the longest.
+pub const FRAME_LEAST: usize = 120;
+
+pub const FRAME_MOST: usize = 960;
+
 // One of the four frame sizes.
+#[tactic(auto, unfolding(crate::specs::Circle::is_frame_size))]
 pub fn is_frame_size(n: usize) -> bool
     ensures { result ≡ is_frame_size n }
 {
@@ -36,6 +42,7 @@ fn cos_at(c: &[f64; 1921], j: usize) -> f64
 }
 
 // The cosines of a circle of 4 n steps, each at half a step more than a whole one. Of a size that no frame has, none.
+#[tactic(auto, using(crate::proofs::Circles::known, crate::proofs::Circles::place_known))]
 pub fn circle(n: usize) -> [f64; 3840]
     ensures { result ≡ circle_of n }
 {
@@ -44,9 +51,8 @@ pub fn circle(n: usize) -> [f64; 3840]
         return r;
     }
     let c = cosines();
-    let s = 960 / n;
-    let m = 4 * n;
-    for i in 0..m {
+    let s = FRAME_MOST / n;
+    for i in 0..4 * n {
         r[i] = cos_at(&c, s * (2 * i + 1));
     }
     r
