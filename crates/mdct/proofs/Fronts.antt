@@ -1,5 +1,5 @@
 -- Lists that are filled from the front, in runs.
-use mathlib.Core.Path.{◌≡◌, ap, ◌∙◌, sym}
+use mathlib.Core.Path.{◌≡◌, ap, ap₂, ◌∙◌, sym}
 use mathlib.Core.List.{List, [], ◌∷◌, ◌++◌, append_assoc, append-nil}
 use Prim.Native.Nat.{ℕ, zero, suc, ◌+◌, ◌<◌}
 use native.Mathlib.Omega.{arith}
@@ -7,7 +7,24 @@ use native.Mathlib.Numerals.{add-one}
 use native.Mathlib.Nat.{add-zero, add-suc}
 use lib.ListN.{length, set, take, drop, length-append, take-append-drop, replicate, length-replicate, get_or-replicate}
 use lib.Seq.{length-take-le, take_at, drop_at, drop-drop, ext_get_or}
+use Rattle.loops.specs.Part.{put, put_next}
 use Rattle.loops.specs.Front.{front, front-write, tab, length-tab, get_or-tab}
+
+-- outputs up to t, and then a run of m more
+pub tab-run : {A : Type 0} (f g : ℕ → A) (t m : ℕ) → ((j : ℕ) → j < m → g j ≡ f (t + j)) → tab f t ++ tab g m ≡ tab f (t + m)
+unfolding tab
+tab-run f g t zero e = append-nil (tab f t) ∙ ap (tab f) (sym (add-zero t))
+tab-run f g t (suc m) e =
+    sym (append_assoc (tab f t) (tab g m) (g m ∷ []))
+    ∙ ap (λ z. z ++ (g m ∷ [])) (tab-run f g t m (λ j h. e j (omega arith)))
+    ∙ ap (λ z. tab f (t + m) ++ (z ∷ [])) (e m (omega arith)) ∙ sym (ap (tab f) (add-suc t m))
+
+-- a run that is put behind the outputs up to t
+pub run_put : {A : Type 0} (f g : ℕ → A) (xs b y : List A) (t m k : ℕ) → b ≡ front (tab f t) xs t → y ≡ tab g m
+    → ((j : ℕ) → j < m → g j ≡ f (t + j)) → k ≡ m → put t k y b ≡ front (tab f (t + m)) xs (t + m)
+run_put f g xs b y t m k e h q l =
+    ap₂ (λ n z. put t n z b) l h ∙ ap (put t m (tab g m)) e ∙ put_next t m (tab f t) (tab g m) xs (length-tab f t)
+    ∙ ap (λ z. front z xs (t + m)) (tab-run f g t m q)
 
 -- a run of outputs that starts at t
 pub rest-none : {A : Type 0} (f : ℕ → A) (xs : List A) (t : ℕ) → xs ≡ front (take t xs ++ tab f 0) xs (t + 0)
@@ -27,15 +44,6 @@ rest_more f d xs b t j e v q h =
     ∙ ap (λ z. front (take t xs ++ (tab f j ++ (z ∷ []))) xs (t + j + 1)) q
     ∙ ap (λ z. front (take t xs ++ z) xs (t + j + 1)) (sym (ap (tab f) (add-one j)))
     ∙ ap (front (take t xs ++ tab f (j + 1)) xs) k
-
--- outputs up to t, and then a run of m more
-pub tab-run : {A : Type 0} (f g : ℕ → A) (t m : ℕ) → ((j : ℕ) → j < m → g j ≡ f (t + j)) → tab f t ++ tab g m ≡ tab f (t + m)
-unfolding tab
-tab-run f g t zero e = append-nil (tab f t) ∙ ap (tab f) (sym (add-zero t))
-tab-run f g t (suc m) e =
-    sym (append_assoc (tab f t) (tab g m) (g m ∷ []))
-    ∙ ap (λ z. z ++ (g m ∷ [])) (tab-run f g t m (λ j h. e j (omega arith)))
-    ∙ ap (λ z. tab f (t + m) ++ (z ∷ [])) (e m (omega arith)) ∙ sym (ap (tab f) (add-suc t m))
 
 pub rest_all : {A : Type 0} (f g : ℕ → A) (xs b : List A) (t m : ℕ) → b ≡ front (tab f t) xs t → ((j : ℕ) → j < m → g j ≡ f (t + j))
     → front (take t b ++ tab g m) b (t + m) ≡ front (tab f (t + m)) xs (t + m)

@@ -1,80 +1,43 @@
 -- Eight outputs side by side: their places on the circle and their sums, input by input.
 use mathlib.Core.Path.{◌≡◌, ap, ◌∙◌, sym, subst}
+use mathlib.Core.Bool.{true}
 use mathlib.Core.List.{List}
-use Prim.Native.Nat.{ℕ, ◌+◌, ◌*◌, ◌/◌, ◌%◌, ◌^◌, ◌≤◌, ◌<◌, ◌-◌}
+use Prim.Native.Nat.{ℕ, ◌+◌, ◌*◌, ◌/◌, ◌%◌, ◌≤◌, ◌<◌}
 use native.Mathlib.Omega.{arith}
 use native.Mathlib.Nat.{mod-lt}
 use lib.ListN.{get_or, replicate}
-use mir.Syntax.{w64}
-use mir.Val.{Fits}
 use lib.Ieee.{Float, nan, binary64, of_bits, add, mul}
 use Rattle.loops.specs.Front.{tab, tab-same, get_or-tab}
 use Rattle.loops.specs.Sum.{sum_to, sum-none, sum_more}
 use Rattle.mdct.specs.Imdct.{imdct_term}
-use Rattle.cosine_circle.specs.Circle.{IsCircle}
-use Rattle.cosine_circle.proofs.Sizes.{Size, even, at_least, at_most}
+use Rattle.cosine_circle.specs.Circle.{is_frame_size, IsCircle}
+use Rattle.cosine_circle.proofs.Circles.{known}
+use Rattle.cosine_circle.proofs.Sizes.{Size, sized, even, eights, next_eight, at_least, at_most}
 use Rattle.mdct.proofs.Angles.{place, place-less, place_none, place-more}
 use Rattle.mdct.proofs.Fronts.{tab-const}
 use Rattle.mdct.proofs.Terms.{term_is}
 
--- a turn of a loop: the bytes before place j of eight, the place after j, and how many are left
-pub bytes_fit : (j : ℕ) → j < 8 → Fits w64 (j * 8)
-bytes_fit j h = record { fits = omega arith }
+-- the next sum of output j, and its next place
+abbrev pub termed : List Float → Float → List ℕ → List Float → ℕ → Float
+termed circle v at acc j = add binary64 (get_or acc j nan) (mul binary64 v (get_or circle (get_or at j 0) nan))
 
-pub next_fits : (j n : ℕ) → j < n → n ≤ 960 → Fits w64 (j + 1)
-next_fits j n h g = record { fits = omega arith }
-
-pub next_le : (j n : ℕ) → j < n → j + 1 ≤ n
-next_le j n h = omega arith
-
-pub fewer : (j n : ℕ) → j < n → n - (j + 1) < n - j
-fewer j n h = omega arith
-
-pub in-length : (i m n : ℕ) → n ≡ m → i < m → i < n
-in-length i m n e h = omega arith
-
--- eight outputs from t on, in room for m
-pub run_in : (t j m : ℕ) → t + 8 ≤ m → j < 8 → t + j < m
-run_in t j m h g = omega arith
-
-pub run_fits : (t j m : ℕ) → t + 8 ≤ m → j < 8 → m < 2 ^ 64 → Fits w64 (t + j)
-run_fits t j m h g k = record { fits = omega arith }
-
--- a place i and a step s on a circle of w steps, which is at most the table's
-pub place-bytes : (i : ℕ) → i < 3840 → Fits w64 (i * 8)
-place-bytes i h = record { fits = omega arith }
-
-pub onward-fits : (i s w : ℕ) → i < w → s < w → w ≤ 3840 → Fits w64 (i + s)
-onward-fits i s w h g k = record { fits = omega arith }
-
-pub two-less : (i s w : ℕ) → i < w → s < w → i + s < 2 * w
-two-less i s w h g = omega arith
+abbrev pub moved : List ℕ → ℕ → List ℕ → ℕ → ℕ
+moved step w at j = (get_or at j 0 + get_or step j 0) % w
 
 -- the numbers that the first places and the steps are made of
-module _ (n t : ℕ) (z : Size n) (h : t < 1920) where
-  pub around-fits : Fits w64 (4 * n)
-  around-fits = record { fits = omega (arith, at_most n z) }
-
-  pub twice-fits : Fits w64 (2 * t)
-  twice-fits = record { fits = omega arith }
-
-  pub odd-fits : (b : ℕ) → b ≤ 2 → Fits w64 (2 * t + b)
-  odd-fits b g = record { fits = omega arith }
-
-  pub step_fits : (b : ℕ) → b ≤ 2 → Fits w64 (2 * t + b + n)
-  step_fits b g = record { fits = omega (arith, at_most n z) }
-
-  pub step-along : (b : ℕ) → b ≤ 2 → (2 * t + b + n < 8000) × (2 ≤ 2) × (0 < 4 * n)
-  step-along b g = (omega (arith, at_most n z), omega arith, omega (arith, at_least n z))
-
-  pub first_fits : Fits w64 (t + n / 2)
-  first_fits = record { fits = omega (arith, at_most n z) }
+module _ (n t : ℕ) (f : is_frame_size n ≡ true) (h : t < 1920) where
+  pub step-along : (2 * t + 1 + n < 8000) × (2 ≤ 2) × (0 < 4 * n)
+  step-along = omega (arith, known n f)
 
   pub first-along : (t + n / 2 < 8000) × (1 ≤ 2) × (0 < 4 * n)
-  first-along = (omega (arith, at_most n z), omega arith, omega (arith, at_least n z))
+  first-along = omega (arith, known n f)
 
-  pub input_fits : (k : ℕ) → k < n → Fits w64 (k * 4)
-  input_fits k g = record { fits = omega (arith, at_most n z) }
+-- eight outputs more, of m
+pub eight-more : (n t m : ℕ) → is_frame_size n ≡ true → m ≡ 2 * n → t % 8 ≡ 0 → t < m → (t + 8 ≤ m) × (m ≤ 1920)
+eight-more n t m f e g h =
+    let z = sized n f in
+    let x = next_eight t (2 * n) g (eights n z) (omega arith) in
+    (omega arith, omega (arith, at_most n z))
 
 -- where output t reads its cosine for input k, how far on the next one is, and its sum of the inputs before k, for eight outputs
 abbrev pub places : ℕ → ℕ → ℕ → ℕ → ℕ

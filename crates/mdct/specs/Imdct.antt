@@ -1,8 +1,9 @@
 -- The inverse transform as a sum of cosines: 2 n outputs from n inputs, n being 120 * 2 ^ lm.
-use Rattle.std.specs.Prelude.{◌≡◌, List, Bool, true, false, ◌&&◌, ℕ, ◌+◌, ◌-◌, ◌*◌, ◌/◌, ◌%◌, eqb, length, get_or, Float}
-use Rattle.std.proofs.Common.{eq-eqb, ne_eqb}
+use Rattle.std.specs.Prelude.{◌≡◌, List, Bool, true, false, ◌&&◌, ℕ, ◌+◌, ◌*◌, ◌/◌, ◌%◌, eqb, length, get_or, Float}
+use Rattle.std.proofs.Common.{eq-eqb, ne_eqb, eqb-true}
 use Rattle.std.specs.Float.{nan, binary64}
 use Rattle.std.specs.Float.Ieee.{of_bits, mul}
+use Rattle.loops.specs.Logic.{and-true}
 use Rattle.loops.specs.Sum.{sum_to}
 use Rattle.loops.specs.Front.{tab, length-tab}
 use Rattle.reply.specs.Reply.{Reply, reply, reply_if, reply-lent}
@@ -51,6 +52,10 @@ takes-no-size n m e = simp e
 pub takes-no-room : (n m : ℕ) → is_frame_size n ≡ true → (m ≡ 2 * n → ⊥) → imdct_takes n m ≡ false
 unfolding imdct_takes
 takes-no-room n m e h = simp (e, ne_eqb m (2 * n) h)
+
+pub takes_fits : (n m : ℕ) → imdct_takes n m ≡ true → (is_frame_size n ≡ true) × (m ≡ 2 * n)
+unfolding imdct_takes
+takes_fits n m e = let p = and-true (is_frame_size n) (eqb m (2 * n)) e in (p.0, eqb-true m (2 * n) p.1)
 
 -- what it leaves: the outputs in out, or out as it was
 unfoldable pub imdct_reply : List Float → List Float → Reply (List Float)

@@ -1,20 +1,20 @@
 // The inverse transform as a direct sum, its cosines from a circle of them.
-ghost use Rattle.std.specs.Prelude.{◌≡◌, true, ◌++◌, ℕ, ◌+◌, ◌*◌, ◌/◌, ◌%◌, ◌<◌, ◌≤◌, length, get_or, take};
+ghost use Rattle.std.specs.Prelude.{◌≡◌, true, ℕ, ◌+◌, ◌*◌, ◌/◌, ◌%◌, ◌<◌, ◌≤◌, length, get_or};
 ghost use Rattle.std.specs.Float.{nan, binary64};
 ghost use Rattle.std.specs.Float.Ieee.{add, mul};
-ghost use Rattle.loops.specs.Front.{front, tab};
-ghost use Rattle.reply.specs.Reply.{reply};
+ghost use Rattle.loops.specs.Front.{tab};
+ghost use Rattle.reply.specs.Reply.{replied};
 ghost use Rattle.cosine_circle.specs.Circle.{is_frame_size, IsCircle};
-ghost use Rattle.mdct.specs.Imdct.{half_of, imdct, imdct_reply, imdct_sum};
+ghost use Rattle.mdct.specs.Imdct.{half_of, imdct, imdct_takes, imdct_reply, imdct_sum};
 
 use cosine_circle::{circle, is_frame_size};
 use float_bits::formats::f32_to_f64;
 use float_narrow::f64_to_f32;
+use reply::Refused;
 
-// i in a circle of w steps.
-fn wrapped(i: usize, w: usize) -> usize
-    requires { i < 2 * w }
-    ensures { result ≡ i % w }
+// i, less than two turns, in a circle of w steps.
+pub fn wrapped(i: usize, w: usize) -> usize
+    ensures { i < 2 * w → result ≡ i % w }
 {
     if i < w { i } else { i - w }
 }
@@ -25,33 +25,31 @@ fn along(first: usize, by: usize, w: usize) -> [usize; 8]
     ensures { result ≡ tab (λ j. (first + by * j) % w) 8 }
 {
     let mut r = [0usize; 8];
-    for j in 0..8 {
-        r[j] = (first + by * j) % w;
+    for (j, place) in r.iter_mut().enumerate() {
+        *place = (first + by * j) % w;
     }
     r
 }
 
 // Adds an input v to eight sums, each times the cosine at its place.
 fn add_terms(circle: &[f64; 3840], v: f64, at: &[usize; 8], acc: &mut [f64; 8])
-    requires acc_len { length acc.old ≡ 8 }
     requires by_index { (j : ℕ) → j < 8 → get_or at.now j 0 < 3840 }
     ensures { acc.new
         ≡ tab (λ j. add binary64 (get_or acc.old j nan) (mul binary64 v (get_or circle.now (get_or at.now j 0) nan))) 8 }
 {
-    for j in 0..8 {
-        acc[j] = acc[j] + v * circle[at[j]];
+    for (j, sum) in acc.iter_mut().enumerate() {
+        *sum += v * circle[at[j]];
     }
 }
 
 // Takes each of eight places its step on, in a circle of w steps.
 fn onward(step: &[usize; 8], w: usize, at: &mut [usize; 8])
     requires w_bound { w ≤ 3840 }
-    requires at_len { length at.old ≡ 8 }
     requires by_index { (j : ℕ) → j < 8 → (get_or at.old j 0 < w) × (get_or step.now j 0 < w) }
     ensures { at.new ≡ tab (λ j. (get_or at.old j 0 + get_or step.now j 0) % w) 8 }
 {
-    for j in 0..8 {
-        at[j] = wrapped(at[j] + step[j], w);
+    for (j, place) in at.iter_mut().enumerate() {
+        *place = wrapped(*place + step[j], w);
     }
 }
 
@@ -67,21 +65,20 @@ fn eight(circle: &[f64; 3840], x: &[f32], t: usize) -> [f64; 8]
     let step = along(2 * t + 1 + n, 2, w);
     let mut at = along(t + n / 2, 1, w);
     let mut acc = [0.0f64; 8];
-    for k in 0..n {
-        let v = f32_to_f64(x[k]);
-        add_terms(circle, v, &at, &mut acc);
+    for value in x {
+        add_terms(circle, f32_to_f64(*value), &at, &mut acc);
         onward(&step, w, &mut at);
     }
     acc
 }
 
-// Halves eight sums, rounded to f32, into out from t on.
-fn halves(sums: &[f64; 8], out: &mut [f32], t: usize)
-    requires { t + 8 ≤ length out.old }
-    ensures { out.new ≡ front (take t out.old ++ tab (λ j. half_of (get_or sums.now j nan)) 8) out.old (t + 8) }
+// Half of each of eight sums, rounded to f32.
+fn halves(sums: &[f64; 8], out: &mut [f32])
+    requires { length out.old ≡ 8 }
+    ensures { out.new ≡ tab (λ j. half_of (get_or sums.now j nan)) 8 }
 {
-    for j in 0..8 {
-        out[t + j] = f64_to_f32(0.5 * sums[j]);
+    for (j, o) in out.iter_mut().enumerate() {
+        *o = f64_to_f32(0.5 * sums[j]);
     }
 }
 
@@ -91,27 +88,25 @@ fn outputs(circle: &[f64; 3840], x: &[f32], out: &mut [f32])
     requires out_len { length out.old ≡ 2 * length x.now }
     ensures { out.new ≡ imdct (length x.now) x.now }
 {
-    let m = out.len();
-    let mut t = 0;
-    while t < m {
-        let sums = eight(circle, x, t);
-        halves(&sums, out, t);
-        t += 8;
+    for t in (0..out.len()).step_by(8) {
+        halves(&eight(circle, x, t), &mut out[t..t + 8]);
     }
 }
 
-// Takes n inputs, n one of the four frame sizes, into 2 n outputs. Of any other lengths it returns false, and out stays as it was.
-pub fn imdct_naive_f32(spectrum: &[f32], out: &mut [f32]) -> bool
-    ensures { reply result out.new ≡ imdct_reply spectrum.now out.old }
+// Whether there are as many inputs as one of the four frame sizes, and room for twice as many outputs.
+pub fn imdct_takes(inputs: usize, outputs: usize) -> bool
+    ensures { result ≡ imdct_takes inputs outputs }
 {
-    let n = spectrum.len();
-    if !is_frame_size(n) {
-        return false;
+    is_frame_size(inputs) && outputs == 2 * inputs
+}
+
+// Takes n inputs, n one of the four frame sizes, into 2 n outputs. Any other lengths are refused, and out stays as it was.
+pub fn imdct_naive_f32(spectrum: &[f32], out: &mut [f32]) -> Result<(), Refused>
+    ensures { replied result out.new ≡ imdct_reply spectrum.now out.old }
+{
+    if !imdct_takes(spectrum.len(), out.len()) {
+        return Err(Refused);
     }
-    if out.len() != 2 * n {
-        return false;
-    }
-    let cosines = circle(n);
-    outputs(&cosines, spectrum, out);
-    true
+    outputs(&circle(spectrum.len()), spectrum, out);
+    Ok(())
 }
