@@ -1,20 +1,22 @@
 -- The pairs of a frame size n, by quarters of n of them: r quarters and a step within the next are 1,920 r parts of the circle and those of the step.
 use mathlib.Core.Path.{◌≡◌, refl, ap, ◌∙◌, sym}
-use mathlib.Core.Bool.{true, false}
+use mathlib.Core.Bool.{true}
 use mathlib.Core.Logic.{◌⊎◌, ⊎_elim, inl, inr}
 use mathlib.Core.List.{List, ◌++◌}
 use Prim.Native.Nat.{ℕ, ◌+◌, ◌-◌, ◌*◌, ◌/◌, ◌%◌, ◌≤◌, ◌<◌}
 use native.Mathlib.Omega.{arith}
 use native.Mathlib.Nat.{mul-add, mul_assoc, mul_comm, mul_left_comm, mul-le-mul_left, mul-lt-mul_of_pos_left}
 use lib.ListN.{length, get_or, set, take}
+use lib.Dec.{eqb}
 use lib.Ieee.{Float, nan, neg}
-use borrow.Author.Tests.{eq-eqb, ne_eqb}
+use borrow.Author.Tests.{eq-eqb, eqb-true}
 use Rattle.loops.specs.Front.{front, tab, tab-none, tab-all}
-use Rattle.loops.specs.Logic.{and_both, and_first, and_second}
+use Rattle.loops.specs.Logic.{and-true, and_both}
 use Rattle.mdct.proofs.Fronts.{rest-none, rest_more, rest_all}
 use Rattle.cosine_table.specs.Cosines.{cosines}
 use Rattle.cosine_circle.specs.Circle.{cos_at, is_frame_size}
-use Rattle.cosine_circle.proofs.Sizes.{Size, per_least, whole}
+use Rattle.cosine_circle.proofs.Sizes.{Size, sized, per_least, whole}
+use Rattle.cosine_circle.proofs.Circles.{known}
 use Rattle.cosine_circle.proofs.Quadrants.{first, second, third, fourth}
 use Rattle.cosine_pairs.specs.Pairs.{step_cos, pair_at, pairs_of, pairs_take}
 
@@ -104,6 +106,13 @@ module _ (n p : ℕ) (z : Size n) where
 pub room : (n r : ℕ) → r < 6 → 2 * (n * r) + 2 * n ≤ 12 * n
 room n r h = let m : r ≤ 5 = omega arith in omega (arith, mul-le-mul_left n m)
 
+-- the numbers of a frame size n, and of quarter r and pair p
+pub in_quarter : (n r : ℕ) → is_frame_size n ≡ true → r < 6 → (120 ≤ n) × (n ≤ 960) × (960 / n ≤ 8) × (2 * (n * r) + 2 * n ≤ 12 * n)
+in_quarter n r f h = let k = known n f in (k.0, k.1, k.2, room n r h)
+
+pub in_step : (n p : ℕ) → is_frame_size n ≡ true → p < n → (0 < 960 / n * (2 * p + 1)) × (960 / n * (2 * p + 1) < 1920)
+in_step n p f h = let z = sized n f in (parts-least n p z, parts-most n p z h)
+
 -- the first p pairs of quarter r, and one pair more
 abbrev pub quarter_to : ℕ → ℕ → List Float → ℕ → List Float
 quarter_to n r was p = front (take (2 * (n * r)) was ++ tab (λ (j : ℕ). pair_at n (2 * (n * r) + j)) (2 * p)) was (2 * (n * r) + 2 * p)
@@ -145,10 +154,6 @@ pub takes-frame : (n m : ℕ) → is_frame_size n ≡ true → m ≡ 12 * n → 
 unfolding pairs_take
 takes-frame n m e h = and_both _ _ e (eq-eqb m (12 * n) h)
 
-pub takes-no-size : (n m : ℕ) → is_frame_size n ≡ false → pairs_take n m ≡ false
+pub takes_fits : (n m : ℕ) → pairs_take n m ≡ true → (is_frame_size n ≡ true) × (m ≡ 12 * n)
 unfolding pairs_take
-takes-no-size n m e = and_first _ _ e
-
-pub takes-no-room : (n m : ℕ) → (m ≡ 12 * n → ⊥) → pairs_take n m ≡ false
-unfolding pairs_take
-takes-no-room n m h = and_second (is_frame_size n) _ (ne_eqb m (12 * n) h)
+takes_fits n m e = let p = and-true (is_frame_size n) (eqb m (12 * n)) e in (p.0, eqb-true m (12 * n) p.1)

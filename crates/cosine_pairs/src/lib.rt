@@ -4,13 +4,14 @@
 
 ghost use Rattle.std.specs.Prelude.{◌≡◌, true, ◌++◌, ℕ, ◌+◌, ◌*◌, ◌%◌, ◌≤◌, ◌<◌, length, take};
 ghost use Rattle.loops.specs.Front.{front, tab};
-ghost use Rattle.reply.specs.Reply.{reply};
+ghost use Rattle.reply.specs.Reply.{replied};
 ghost use Rattle.cosine_table.specs.Cosines.{cosines};
 ghost use Rattle.cosine_circle.specs.Circle.{cos_at, is_frame_size};
-ghost use Rattle.cosine_pairs.specs.Pairs.{pair_at, pairs_reply};
+ghost use Rattle.cosine_pairs.specs.Pairs.{pair_at, pairs_take, pairs_reply};
 
-use cosine_circle::is_frame_size;
+use cosine_circle::{FRAME_MOST, is_frame_size};
 use cosine_table::cosines;
+use reply::Refused;
 
 // The cosine of r quarters and j parts more of a circle of 7,680.
 fn corner(c: &[f64; 1921], j: usize, r: usize) -> f64
@@ -27,6 +28,7 @@ fn corner(c: &[f64; 1921], j: usize, r: usize) -> f64
 }
 
 // The n pairs of quarter r of the circle.
+#[tactic(auto, using(crate::proofs::Pairs::in_quarter, crate::proofs::Pairs::in_step))]
 fn quarter(c: &[f64; 1921], n: usize, r: usize, pairs: &mut [f64])
     requires c_value { c.now ≡ cosines }
     requires n_value { is_frame_size n ≡ true }
@@ -34,7 +36,7 @@ fn quarter(c: &[f64; 1921], n: usize, r: usize, pairs: &mut [f64])
     ensures { pairs.new
         ≡ front (take (2 * (n * r)) pairs.old ++ tab (λ j. pair_at n (2 * (n * r) + j)) (2 * n)) pairs.old (2 * (n * r) + 2 * n) }
 {
-    let s = 960 / n;
+    let s = FRAME_MOST / n;
     let first = 2 * (n * r);
     for p in 0..n {
         let j = s * (2 * p + 1);
@@ -43,19 +45,23 @@ fn quarter(c: &[f64; 1921], n: usize, r: usize, pairs: &mut [f64])
     }
 }
 
-// The pairs of a circle and a half for the frame size n, in 12 n places. Of any other size or number of places it returns false, and they stay as they were.
-pub fn fill_pairs(n: usize, pairs: &mut [f64]) -> bool
-    ensures { reply result pairs.new ≡ pairs_reply n pairs.old }
+// Whether n is a frame size and its pairs take so many places.
+fn pairs_take(n: usize, places: usize) -> bool
+    ensures { result ≡ pairs_take n places }
 {
-    if !is_frame_size(n) {
-        return false;
-    }
-    if pairs.len() != 12 * n {
-        return false;
+    is_frame_size(n) && places == 12 * n
+}
+
+// The pairs of a circle and a half for the frame size n, in 12 n places. Any other size or number of places is refused, and they stay as they were.
+pub fn fill_pairs(n: usize, pairs: &mut [f64]) -> Result<(), Refused>
+    ensures { replied result pairs.new ≡ pairs_reply n pairs.old }
+{
+    if !pairs_take(n, pairs.len()) {
+        return Err(Refused);
     }
     let c = cosines();
     for r in 0..6 {
         quarter(&c, n, r, pairs);
     }
-    true
+    Ok(())
 }

@@ -1,42 +1,29 @@
--- `cosine_pairs::fill_pairs` meets its contract: two refusals that touch nothing, and the pairs of the first r quarters are written, up to six.
-use mathlib.Core.Path.{◌≡◌, refl, ◌∙◌, sym}
-use mathlib.Core.Bool.{true}
-use Prim.Native.Nat.{◌-◌}
-use native.Mathlib.Omega.{arith}
-use native.Mathlib.Nat.{le_antisymm}
+-- A refusal that touches nothing, and the pairs of six quarters.
+use mathlib.Core.Path.{refl, ◌∙◌, sym}
 use borrow.Author.Rules.{rules}
 use Rattle.reply.specs.Reply.{reply-yes, reply-no}
-use Rattle.cosine_circle.specs.Circle.{is_frame_size}
-use Rattle.cosine_circle.proofs.Sizes.{sized, at_most}
 use Rattle.cosine_pairs.specs.Pairs.{pairs_reply}
-use Rattle.cosine_pairs.proofs.Pairs.{quarters_none, quarters_more, quarters_all, takes-frame, takes-no-size, takes-no-room}
+use Rattle.cosine_pairs.proofs.Pairs.{quarters_none, quarters_more, quarters_all, takes_fits}
 use Rattle.cosine_pairs.proofs.fill_pairs.Goals as goal
 
-pub returns-then-not-is_frame_size : goal.returns-then-not-is_frame_size
+pub returns-then-not-pairs_take : goal.returns-then-not-pairs_take
 unfolding pairs_reply
-returns-then-not-is_frame_size c = reply-no _ _ _ (takes-no-size _ _ (sym c.is_frame_size.ensures ∙ c.if-not-is_frame_size.true)) refl
-
-pub overflow_mul-n : goal.overflow_mul-n
-overflow_mul-n c = omega (arith, at_most _ (sized _ (let here : is_frame_size c.args.n ≡ true = sym c.is_frame_size.ensures ∙ c.if-not-is_frame_size.false in here)))
-
-pub returns-then-pairs-n : goal.returns-then-pairs-n
-unfolding pairs_reply
-returns-then-pairs-n c = reply-no _ _ _ (takes-no-room _ _ c.if-pairs-n.true) refl
+returns-then-not-pairs_take c = reply-no _ _ _ (sym c.pairs_take.ensures ∙ c.if-not-pairs_take.true) refl
 
 pub loop-r-init : goal.loop-r-init
-loop-r-init c = let a = c.args in (search rules, refl, quarters_none a.n a.pairs.now)
+loop-r-init c = quarters_none c.args.n c.args.pairs.now
 
 pub quarter-requires : goal.quarter-requires
 quarter-requires c =
-    record { c_value = c.cosines-c.ensures; n_value = (let here : is_frame_size c.args.n ≡ true = sym c.is_frame_size.ensures ∙ c.if-not-is_frame_size.false in here); r_bound = (c.loop-r-test.true, c.loop-r.invariant.1 ∙ c.if-pairs-n.false) }
+    let f = takes_fits _ _ (sym c.pairs_take.ensures ∙ c.if-not-pairs_take.false) in
+    record { c_value = c.cosines-c.ensures; n_value = f.0; r_bound = (search rules, search rules) }
 
 pub loop-r-preserved : goal.loop-r-preserved
-loop-r-preserved c =
-    let l = c.loop-r in
-    (search rules, c.quarter.auto.pairs ∙ l.invariant.1, quarters_more _ _ _ _ _ l.invariant.2 c.quarter.ensures)
+loop-r-preserved c = quarters_more _ _ _ _ _ c.loop-r.invariant c.quarter.ensures
 
 pub returns : goal.returns
 unfolding pairs_reply
 returns c =
-    let l = c.loop-r in
-    reply-yes _ _ _ (takes-frame _ _ (let here : is_frame_size c.args.n ≡ true = sym c.is_frame_size.ensures ∙ c.if-not-is_frame_size.false in here) c.if-pairs-n.false) (quarters_all _ _ _ _ c.if-pairs-n.false l.invariant.2 (le_antisymm l.invariant.0 c.loop-r-test.false))
+    let t = sym c.pairs_take.ensures ∙ c.if-not-pairs_take.false in
+    let f = takes_fits _ _ t in
+    reply-yes _ _ _ t (quarters_all _ _ _ _ f.1 c.loop-r.invariant (search rules))
