@@ -3,3 +3,5 @@ pub mod Lent
 pub mod PairLanes
 pub mod Steps
 pub mod Two
+mod Eights
+mod Takes

@@ -8,16 +8,14 @@ use lib.ListN.{length, get_or}
 use lib.Ieee.{Float, nan, binary64, add, mul}
 use Rattle.loops.specs.Front.{tab, length-tab}
 use Rattle.cosine_circle.specs.Circle.{is_frame_size}
-use Rattle.cosine_circle.proofs.Sizes.{Size, sized, at_most}
+use Rattle.cosine_circle.proofs.Sizes.{Size, sized, few}
+use Rattle.mdct.specs.Imdct.{imdct_sum}
 use Rattle.cosine_pairs.specs.Pairs.{pairs_of}
 use Rattle.mdct_pairs.specs.Inputs.{inputs_of}
 use Rattle.mdct_pairs.proofs.PairLanes.{places, sums, on-table, before, moved, turned, sums-more}
 use Rattle.mdct_pairs.proofs.PairLanes.{at_count, step_of, first_on, second-on, third-on, first-in, second-in, first_small, second-small, third-small}
 
 -- ---- lengths of what is lent
-
-pub few : (n : ℕ) → is_frame_size n ≡ true → n ≤ 960
-few n f = at_most _ (sized _ f)
 
 inputs-count : (xs inputs : List Float) → inputs ≡ inputs_of xs → length inputs ≡ 2 * length xs
 unfolding inputs_of
@@ -33,10 +31,17 @@ two-more h n g = omega arith
 pub short-step : (t n : ℕ) → n ≤ 960 → 2 * t + 8 ≤ n → 2 * (2 * t + 1 + n) < 8000
 short-step t n h g = omega arith
 
--- the next four pairs of sums, from inputs i and i + 1
+-- the next sum e, and the next four pairs of sums, from inputs i and i + 1
+abbrev pub term_of : List Float → List Float → ℕ → List ℕ → List Float → ℕ → Float
+term_of pairs inputs i at acc e =
+    add binary64 (get_or acc e nan) (mul binary64 (get_or inputs (i + e % 2) nan) (get_or pairs (get_or at (e / 2) 0 + e % 2) nan))
+
 abbrev pub termed : List Float → List Float → ℕ → List ℕ → List Float → List Float
-termed pairs inputs i at acc =
-    tab (λ (e : ℕ). add binary64 (get_or acc e nan) (mul binary64 (get_or inputs (i + e % 2) nan) (get_or pairs (get_or at (e / 2) 0 + e % 2) nan))) 8
+termed pairs inputs i at acc = tab (term_of pairs inputs i at acc) 8
+
+-- sum j of the frame
+abbrev pub pair_sum : ℕ → List Float → ℕ → Float
+pair_sum n x j = imdct_sum n x (j / 2 + j % 2 * n)
 
 -- the places a step on
 abbrev pub stepped : ℕ → List ℕ → List ℕ
@@ -51,6 +56,11 @@ pub record Turn (xs pairs inputs : List Float) (t h : ℕ) (at : List ℕ) (acc 
   pub more : h < length xs / 2
   pub at_is : at ≡ tab (λ (j : ℕ). 2 * places (length xs) t (2 * h) j) 4
   pub acc_is : acc ≡ tab (sums (length xs) xs t (2 * h)) 8
+
+pub turn : {xs pairs inputs : List Float} {t h : ℕ} {at : List ℕ} {acc : List Float} → is_frame_size (length xs) ≡ true
+    → (pairs ≡ pairs_of (length xs)) × (inputs ≡ inputs_of xs) → 2 * t + 8 ≤ length xs → h < length xs / 2
+    → at ≡ tab (λ (j : ℕ). 2 * places (length xs) t (2 * h) j) 4 → acc ≡ tab (sums (length xs) xs t (2 * h)) 8 → Turn xs pairs inputs t h at acc
+turn f p r m a s = record { frame = f; tables = p; room = r; more = m; at_is = a; acc_is = s }
 
 module _ (xs pairs inputs : List Float) (t h : ℕ) (at : List ℕ) (acc : List Float) (w : Turn xs pairs inputs t h at acc) where
   abbrev n : ℕ

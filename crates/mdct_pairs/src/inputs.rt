@@ -18,8 +18,7 @@ pub(crate) fn fill_inputs(x: &[f32], inputs: &mut [f64])
     requires { (length x.now ≤ 960) × (length inputs.old ≡ 2 * length x.now) }
     ensures { inputs.new ≡ inputs_of x.now }
 {
-    let m = inputs.len();
-    for i in 0..m {
-        inputs[i] = input_at(x, i);
+    for (i, v) in inputs.iter_mut().enumerate() {
+        *v = input_at(x, i);
     }
 }

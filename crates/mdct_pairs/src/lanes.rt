@@ -8,6 +8,8 @@ ghost use Rattle.mdct.specs.Imdct.{imdct_sum};
 ghost use Rattle.cosine_pairs.specs.Pairs.{pairs_of};
 ghost use Rattle.mdct_pairs.specs.Inputs.{inputs_of};
 
+use mdct::imdct::wrapped;
+
 // Four pairs of sums, and how many products were made for them.
 #[derive(Clone, Copy)]
 pub(crate) struct Sums {
@@ -17,44 +19,35 @@ pub(crate) struct Sums {
 
 // Adds a pair of inputs to four pairs of sums, each times the pair of cosines at its place.
 fn add_terms(pairs: &[f64], inputs: &[f64], i: usize, at: &[usize; 4], acc: &mut [f64; 8])
-    requires acc_len { (length acc.old ≡ 8) × (i + 2 ≤ length inputs.now) × (length pairs.now ≤ 11520) }
+    requires places { (i + 2 ≤ length inputs.now) × (length pairs.now ≤ 11520) }
     requires by_index { (j : ℕ) → j < 4 → get_or at.now j 0 + 2 ≤ length pairs.now }
     ensures { acc.new
         ≡ tab (λ e. add binary64 (get_or acc.old e nan)
         (mul binary64 (get_or inputs.now (i + e % 2) nan) (get_or pairs.now (get_or at.now (e / 2) 0 + e % 2) nan))) 8 }
 {
-    for e in 0..8 {
-        acc[e] = acc[e] + inputs[i + e % 2] * pairs[at[e / 2] + e % 2];
+    for (e, sum) in acc.iter_mut().enumerate() {
+        *sum += inputs[i + e % 2] * pairs[at[e / 2] + e % 2];
     }
 }
 
 // Takes each of four places its step on: two places further for each output.
 fn onward(step: usize, at: &mut [usize; 4])
-    requires at_len { (length at.old ≡ 4) × (step < 8000) }
+    requires step_bound { step < 8000 }
     requires by_index { (j : ℕ) → j < 4 → get_or at.old j 0 < 16000 }
     ensures { at.new ≡ tab (λ j. get_or at.old j 0 + (step + 4 * j)) 4 }
 {
-    for j in 0..4 {
-        at[j] = at[j] + (step + 4 * j);
+    for (j, place) in at.iter_mut().enumerate() {
+        *place += step + 4 * j;
     }
-}
-
-// i in a circle of w places.
-fn wrapped(i: usize, w: usize) -> usize
-    requires { i < 2 * w }
-    ensures { result ≡ i % w }
-{
-    if i < w { i } else { i - w }
 }
 
 // Each of four places in a circle of w places.
 fn around(w: usize, at: &mut [usize; 4])
-    requires at_len { length at.old ≡ 4 }
-    requires by_index { (j : ℕ) → j < 4 → get_or at.old j 0 < 2 * w }
+    requires { (j : ℕ) → j < 4 → get_or at.old j 0 < 2 * w }
     ensures { at.new ≡ tab (λ j. get_or at.old j 0 % w) 4 }
 {
-    for j in 0..4 {
-        at[j] = wrapped(at[j], w);
+    for place in at.iter_mut() {
+        *place = wrapped(*place, w);
     }
 }
 
@@ -64,8 +57,8 @@ fn first_places(t: usize, n: usize) -> [usize; 4]
     ensures { result ≡ tab (λ j. 2 * (t + j) + n) 4 }
 {
     let mut at = [0usize; 4];
-    for j in 0..4 {
-        at[j] = 2 * (t + j) + n;
+    for (j, place) in at.iter_mut().enumerate() {
+        *place = 2 * (t + j) + n;
     }
     at
 }

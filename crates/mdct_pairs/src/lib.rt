@@ -2,32 +2,21 @@
 
 #![tactic(auto)]
 
-ghost use Rattle.std.specs.Prelude.{◌≡◌, true, ◌*◌, length};
-ghost use Rattle.reply.specs.Reply.{reply};
+ghost use Rattle.std.specs.Prelude.{◌≡◌, true, ◌*◌, ◌≤◌, length};
+ghost use Rattle.reply.specs.Reply.{replied, value_or};
 ghost use Rattle.cosine_circle.specs.Circle.{is_frame_size};
-ghost use Rattle.mdct_pairs.specs.Pairs.{pair_reply, summed};
+ghost use Rattle.mdct_pairs.specs.Pairs.{pair_takes, pair_reply, summed};
 ghost use Rattle.mdct_work.specs.Work.{values, total, pair_sums};
 
-use cosine_circle::is_frame_size;
+use cosine_circle::{FRAME_LEAST, is_frame_size};
 use cosine_pairs::fill_pairs;
 use frame::fill_sums;
 use inputs::fill_inputs;
+use reply::Refused;
 
 mod frame;
 mod inputs;
 mod lanes;
-
-// The shortest frame and the longest.
-const SHORT: usize = 120;
-
-const LONG: usize = 960;
-
-// Whether the lengths fitted, and how many products were made.
-#[derive(Clone, Copy)]
-pub struct Summed {
-    pub taken: bool,
-    pub products: usize,
-}
 
 // Makes both tables, of cosines and of inputs, and the sums from them.
 fn sums_by_tables(
@@ -42,65 +31,45 @@ fn sums_by_tables(
     ensures { (sums.new ≡ values (pair_sums (length spectrum.now) spectrum.now))
         × (result ≡ total (pair_sums (length spectrum.now) spectrum.now)) }
 {
-    let n = spectrum.len();
-    fill_pairs(n, pairs);
+    fill_pairs(spectrum.len(), pairs).unwrap();
     fill_inputs(spectrum, inputs);
     fill_sums(pairs, inputs, spectrum, sums)
 }
 
-// Tables no larger than the shortest frame needs: clearing the longest's takes half as long as its sums.
-fn short_sums(spectrum: &[f32], sums: &mut [f64]) -> usize
-    requires { (length spectrum.now ≡ 120) × (length sums.old ≡ length spectrum.now) }
-    ensures { (sums.new ≡ values (pair_sums (length spectrum.now) spectrum.now))
-        × (result ≡ total (pair_sums (length spectrum.now) spectrum.now)) }
-{
-    let mut pairs = [0.0f64; 12 * SHORT];
-    let mut inputs = [0.0f64; 2 * SHORT];
-    sums_by_tables(&mut pairs, &mut inputs, spectrum, sums)
-}
-
-fn long_sums(spectrum: &[f32], sums: &mut [f64]) -> usize
+// The sums, with room for the tables of every frame whose cosines take at most P places and whose inputs at most I.
+fn sums_within<const P: usize, const I: usize>(spectrum: &[f32], sums: &mut [f64]) -> usize
     requires spectrum_value { is_frame_size (length spectrum.now) ≡ true }
+    requires tables { (12 * length spectrum.now ≤ P) × (P ≤ 11520) × (2 * length spectrum.now ≤ I) × (I ≤ 1920) }
     requires sums_len { length sums.old ≡ length spectrum.now }
     ensures { (sums.new ≡ values (pair_sums (length spectrum.now) spectrum.now))
         × (result ≡ total (pair_sums (length spectrum.now) spectrum.now)) }
 {
     let n = spectrum.len();
-    let k = 12 * n;
-    let m = 2 * n;
-    let mut pairs = [0.0f64; 12 * LONG];
-    let mut inputs = [0.0f64; 2 * LONG];
-    sums_by_tables(&mut pairs[..k], &mut inputs[..m], spectrum, sums)
+    let mut pairs = [0.0f64; P];
+    let mut inputs = [0.0f64; I];
+    sums_by_tables(&mut pairs[..12 * n], &mut inputs[..2 * n], spectrum, sums)
 }
 
-// Half of the sums of n inputs, n one of the four frame sizes: of outputs t and n + t side by side, for t below n / 2.
-// Of any other lengths it takes nothing, makes no product, and sums stays as it was.
-pub fn pair_sums(spectrum: &[f32], sums: &mut [f64]) -> Summed
-    ensures { reply result.taken (summed sums.new result.products) ≡ pair_reply spectrum.now sums.old }
+// Whether there are as many inputs as one of the four frame sizes, and room for as many sums.
+fn pair_takes(inputs: usize, sums: usize) -> bool
+    ensures { result ≡ pair_takes inputs sums }
+{
+    is_frame_size(inputs) && sums == inputs
+}
+
+// Half of the sums of n inputs, n one of the four frame sizes: of outputs t and n + t side by side, for t below n / 2. Answers how
+// many products were made. Any other lengths are refused, and sums stays as it was.
+pub fn pair_sums(spectrum: &[f32], sums: &mut [f64]) -> Result<usize, Refused>
+    ensures { replied result (summed sums.new (value_or 0 result)) ≡ pair_reply spectrum.now sums.old }
 {
     let n = spectrum.len();
-    if !is_frame_size(n) {
-        return Summed {
-            taken: false,
-            products: 0,
-        };
+    if !pair_takes(n, sums.len()) {
+        return Err(Refused);
     }
-    if sums.len() != n {
-        return Summed {
-            taken: false,
-            products: 0,
-        };
-    }
-    if n == SHORT {
-        let products = short_sums(spectrum, sums);
-        return Summed {
-            taken: true,
-            products,
-        };
-    }
-    let products = long_sums(spectrum, sums);
-    Summed {
-        taken: true,
-        products,
+    // the shortest frame has tables of its own: clearing the longest's takes half as long as its sums
+    if n == FRAME_LEAST {
+        Ok(sums_within::<1_440, 240>(spectrum, sums))
+    } else {
+        Ok(sums_within::<11_520, 1_920>(spectrum, sums))
     }
 }

@@ -8,6 +8,6 @@ pub returns-then-u-n : goal.returns-then-u-n
 unfolding half_of
 returns-then-u-n c = even-before _ _ _ _ c.if-u-n.true c.f64_to_f32.ensures
 
-pub returns : goal.returns
+pub returns-else-u-n : goal.returns-else-u-n
 unfolding half_of even_sum
-returns c = even-past _ _ _ _ c.if-u-n.false c.f64_to_f32-2.ensures
+returns-else-u-n c = even-past _ _ _ _ c.if-u-n.false c.f64_to_f32-else-u-n.ensures

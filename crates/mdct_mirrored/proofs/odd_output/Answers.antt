@@ -9,6 +9,6 @@ pub returns-then-u-n : goal.returns-then-u-n
 unfolding half_of
 returns-then-u-n c = odd-before _ _ _ _ c.if-u-n.true c.f64_to_f32.ensures
 
-pub returns : goal.returns
+pub returns-else-u-n : goal.returns-else-u-n
 unfolding half_of odd_sum turned
-returns c = odd-past _ _ _ _ c.if-u-n.false c.f64_to_f32-2.ensures
+returns-else-u-n c = odd-past _ _ _ _ c.if-u-n.false c.f64_to_f32-else-u-n.ensures

@@ -1,13 +1,8 @@
--- `inputs::fill_inputs` meets its contract: the places before i are filled.
+-- The places before i are filled.
 use mathlib.Core.Path.{◌≡◌}
-use Prim.Native.Nat.{◌≤◌, ◌-◌}
-use lib.ListN.{length}
 use Rattle.loops.specs.Front.{front, tab}
 use Rattle.mdct_pairs.specs.Inputs.{input_at}
 use Rattle.mdct_pairs.proofs.inputs.fill_inputs.Given as goal
 
 abbrev pub invariant-loop-i : goal.invariant-loop-i
-invariant-loop-i l = (l.i ≤ l.m) × (length l.inputs ≡ l.m) × (l.inputs ≡ front (tab (input_at l.x) l.i) l.initial.inputs l.i)
-
-abbrev pub decreases-loop-i : goal.decreases-loop-i
-decreases-loop-i l = l.m - l.i
+invariant-loop-i l = l.inputs ≡ front (tab (input_at l.x) l.i) l.initial.inputs l.i

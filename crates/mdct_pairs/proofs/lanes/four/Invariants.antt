@@ -1,13 +1,10 @@
--- `lanes::four` meets its contract. With two inputs every lane goes two steps on and is taken back into the circle, and each sum gets two terms more.
+-- With two inputs every lane goes two steps on and is taken back into the circle, and each sum gets two terms more.
 use mathlib.Core.Path.{◌≡◌}
-use Prim.Native.Nat.{ℕ, ◌≤◌, ◌-◌, ◌*◌}
+use Prim.Native.Nat.{ℕ, ◌*◌}
 use Rattle.loops.specs.Front.{tab}
 use Rattle.mdct_pairs.proofs.PairLanes.{places, sums}
 use Rattle.mdct_pairs.proofs.lanes.four.Given as goal
 
 abbrev pub invariant-loop-h : goal.invariant-loop-h
 invariant-loop-h l =
-    (l.h ≤ l.half) × (l.at ≡ tab (λ (j : ℕ). 2 * places l.n l.t (2 * l.h) j) 4) × (l.acc ≡ tab (sums l.n l.x l.t (2 * l.h)) 8) × (l.products ≡ 16 * l.h)
-
-abbrev pub decreases-loop-h : goal.decreases-loop-h
-decreases-loop-h l = l.half - l.h
+    (l.at ≡ tab (λ (j : ℕ). 2 * places l.n l.t (2 * l.h) j) 4) × (l.acc ≡ tab (sums l.n l.x l.t (2 * l.h)) 8) × (l.products ≡ 16 * l.h)

@@ -1,33 +1,25 @@
--- `lanes::onward` meets its contract: the places before j are a step on, the others stand as they were.
-use mathlib.Core.Path.{◌≡◌, ap, ◌∙◌, sym}
-use mathlib.Core.List.{List}
-use Prim.Native.Nat.{ℕ, ◌+◌, ◌<◌, ◌-◌, ◌*◌}
-use native.Mathlib.Omega.{arith}
-use lib.ListN.{length, get_or, length-set}
+-- The places before j are a step on, the others stand as they were.
+use mathlib.Core.Path.{ap, ◌∙◌}
+use Prim.Native.Nat.{◌+◌, ◌*◌}
 use borrow.Author.Rules.{rules}
-use Rattle.loops.specs.Front.{front, tab, tab-none, tab-read, tab-more, tab-all}
+use Rattle.loops.specs.Front.{tab, tab-none, tab-read, tab-more, tab-all}
 use Rattle.mdct_pairs.proofs.lanes.onward.Goals as goal
 
--- a place that is still to come stands as it did
-at-is : (f : ℕ → ℕ) (at₀ at : List ℕ) (j : ℕ) → length at₀ ≡ 4 → j < 4 → at ≡ front (tab f j) at₀ j → get_or at j 0 ≡ get_or at₀ j 0
-at-is f at₀ at j l i e = tab-read f 0 at₀ at j e (omega arith)
-
 pub loop-j-init : goal.loop-j-init
-loop-j-init c = (search rules, search rules, tab-none _ _)
+loop-j-init c = tab-none _ _
 
-pub overflow_add-at-in-loop-j : goal.overflow_add-at-in-loop-j
-overflow_add-at-in-loop-j c = omega (arith, at-is _ _ _ _ c.requires.at_len.0 c.loop-j-test.true c.loop-j.invariant.2, c.requires.by_index c.loop-j.j c.loop-j-test.true)
+pub overflow_add-place-in-loop-j : goal.overflow_add-place-in-loop-j
+overflow_add-place-in-loop-j c =
+    let l = c.loop-j in
+    let r = tab-read _ 0 _ _ _ l.invariant (search rules) in
+    let h = c.requires.by_index l.j (search rules) in
+    search rules
 
 pub loop-j-preserved : goal.loop-j-preserved
 loop-j-preserved c =
     let l = c.loop-j in
-    let a = c.args in
-    let room : l.j < length a.at.now = omega arith in
-    (search rules, simp length-set l.invariant.1, tab-more _ 0 _ _ _ l.invariant.2 _ (ap (λ y. y + (a.step + 4 * l.j)) (at-is _ _ _ _ c.requires.at_len.0 c.loop-j-test.true c.loop-j.invariant.2)) room)
+    let r = tab-read _ 0 _ _ _ l.invariant (search rules) in
+    tab-more _ 0 _ _ _ l.invariant _ (ap (λ y. y + (c.args.step + 4 * l.j)) r) (search rules)
 
 pub returns : goal.returns
-returns c =
-    let l = c.loop-j in
-    let p = c.requires.at_len.0 in
-    let e : l.j ≡ 4 = omega arith in
-    tab-all _ 0 _ _ _ l.invariant.2 (p ∙ sym e) ∙ ap (tab _) p
+returns c = tab-all _ 0 _ _ _ c.loop-j.invariant (search rules) ∙ ap (tab _) (search rules)
