@@ -3,37 +3,29 @@
 #![tactic(auto)]
 
 ghost use Rattle.std.specs.Prelude.{◌≡◌, ◌^◌, ◌≤◌, length};
-ghost use Rattle.reply.specs.Reply.{reply, reply_if};
+ghost use Rattle.reply.specs.Reply.{replied, reply_if, value_or};
 ghost use Rattle.noise_block.specs.Block.{drawn_block, noise_block};
 ghost use Rattle.noise_block.specs.Call.{settings_fit, block_takes};
 
+use block::window_outputs;
+use cosine_circle::FRAME_MOST;
 use custom_mode::standard::{BANDS, MAX_BANDS, OVERLAP, SHORT_BLOCK};
+use mdct_mirrored::imdct_mirrored_f32;
+use noise_spectrum::{Span, noise_spectrum};
+use reply::Refused;
 
 mod block;
 
 const LM_MOST: usize = 3;
 
-// Whether settings and lengths fitted, and the seed.
-#[derive(Clone, Copy)]
-pub struct Drawn {
-    pub taken: bool,
-    pub seed: u32,
-}
+// The longest block: the longest frame and its overlap.
+pub const BLOCK_MOST: usize = FRAME_MOST + OVERLAP;
 
 // lm 0 to 3, end above start and at most 21, and a factor of downsampling.
-fn settings_fit(lm: usize, start: usize, end: usize, downsample: usize) -> bool
-    ensures { result ≡ settings_fit lm start end downsample }
+fn settings_fit(lm: usize, span: Span) -> bool
+    ensures { result ≡ settings_fit lm span.start span.end span.downsample }
 {
-    if LM_MOST < lm {
-        return false;
-    }
-    if end <= start {
-        return false;
-    }
-    if BANDS < end {
-        return false;
-    }
-    1 <= downsample
+    lm <= LM_MOST && span.start < span.end && span.end <= BANDS && 1 <= span.downsample
 }
 
 fn factor(lm: usize) -> usize
@@ -43,36 +35,36 @@ fn factor(lm: usize) -> usize
     1 << lm
 }
 
-// A channel's noise block in a buffer of N + 120 samples, from its 25 energies.
+// With so many energies and so many samples lent.
+fn block_takes(lm: usize, span: Span, energies: usize, size: usize) -> bool
+    ensures { result ≡ block_takes lm span.start span.end span.downsample energies size }
+{
+    settings_fit(lm, span) && energies == MAX_BANDS && size == SHORT_BLOCK * factor(lm) + OVERLAP
+}
+
+// A channel's noise block in a buffer of N + 120 samples, from its 25 energies: answers the seed after it.
 pub fn noise_block(
     block: &mut [f32],
     lm: usize,
-    start: usize,
-    end: usize,
-    downsample: usize,
+    span: Span,
     seed: u32,
     energies: &[f32],
-) -> Drawn
-    ensures { reply result.taken (drawn_block block.new result.seed)
-        ≡ reply_if (block_takes lm start end downsample (length energies.now) (length block.old))
-        (noise_block (2 ^ lm) start end downsample seed energies.now) (drawn_block block.old seed) }
+) -> Result<u32, Refused>
+    ensures { replied result (drawn_block block.new (value_or seed result))
+        ≡ reply_if (block_takes lm span.start span.end span.downsample (length energies.now) (length block.old))
+        (noise_block (2 ^ lm) span.start span.end span.downsample seed energies.now) (drawn_block block.old seed) }
 {
-    let size = block.len();
-    let bands = energies.len();
-    if settings_fit(lm, start, end, downsample) {
-        let m = factor(lm);
-        if bands == MAX_BANDS {
-            if size == SHORT_BLOCK * m + OVERLAP {
-                let s = block::fill_block(block, m, start, end, downsample, seed, energies);
-                return Drawn {
-                    taken: true,
-                    seed: s,
-                };
-            }
-        }
+    if !block_takes(lm, span, energies.len(), block.len()) {
+        return Err(Refused);
     }
-    Drawn {
-        taken: false,
-        seed: seed,
-    }
+    let m = factor(lm);
+    let n = SHORT_BLOCK * m;
+    let mut bins = [0.0f32; FRAME_MOST];
+    let mut outputs = [0.0f32; 2 * FRAME_MOST];
+    let spectrum = &mut bins[..n];
+    let u = &mut outputs[..2 * n];
+    let after = noise_spectrum(spectrum, m, span, seed, energies)?;
+    imdct_mirrored_f32(spectrum, u)?;
+    window_outputs(block, u, n);
+    Ok(after)
 }

@@ -1,7 +1,7 @@
 -- What the functions that call others rest on.
-use mathlib.Core.Path.{◌≡◌, ap, ap₂, ◌∙◌}
+use mathlib.Core.Path.{◌≡◌, ap, ap₂, ◌∙◌, sym}
 use mathlib.Core.List.{List, [], ◌++◌, append-nil}
-use mathlib.Core.Bool.{Bool, true, ◌&&◌}
+use mathlib.Core.Bool.{true, ◌&&◌}
 use Prim.Native.Nat.{ℕ, ◌*◌, ◌-◌, ◌≤◌}
 use native.Mathlib.Omega.{arith}
 use lib.ListN.{length, take, drop, replicate, length-drop, drop_of_length-le}
@@ -12,7 +12,9 @@ use borrow.Author.Tests.{leb-true, le-leb, eq-eqb}
 use Rattle.std.proofs.Common.{eqb-true}
 use Rattle.loops.specs.Fold.{fold_range}
 use Rattle.loops.specs.Logic.{and-true}
-use Rattle.reply.specs.Reply.{reply, reply_if, reply-lent}
+use Rattle.std.specs.Prelude.{Result, Ok, Err, is_ok}
+use Rattle.reply.specs.declared.Refused.{Refused}
+use Rattle.reply.specs.Reply.{Reply, replied, value_or, reply_if, reply-lent, reply-taken}
 use Rattle.buffers.specs.Buffers.{zero32}
 use Rattle.noise_shape.specs.Shape.{Shape, shaped, noise_shape}
 use Rattle.noise_spectrum.specs.Spectrum.{gain_turn, bound, cleared, spectrum, spectrum_over, spectrum_fits, spectrum_takes}
@@ -82,11 +84,18 @@ module _ (m start end d seed : ℕ) (energies bins : List Float) (f : Fits m sta
   all_fit =
       ap₂ ◌&&◌ (le-leb m 8 f.small) (ap₂ ◌&&◌ (le-leb start end f.some) (ap₂ ◌&&◌ (le-leb end 21 f.last) (le-leb 1 d f.every)))
 
-  pub spectrum-left : {t : Bool} {y : List Float} {s : ℕ}
-      → reply t (shaped y s) ≡ reply_if (spectrum_takes m start end d (length energies) (length bins)) (spectrum_over m start end d seed energies bins) (shaped bins seed)
+  abbrev spectrum-reply : Reply Shape
+  spectrum-reply =
+      reply_if (spectrum_takes m start end d (length energies) (length bins)) (spectrum_over m start end d seed energies bins) (shaped bins seed)
+
+  pub spectrum-left : {r : Result ℕ Refused} {y : List Float} {s : ℕ} → replied r (shaped y (value_or seed r)) ≡ spectrum-reply → r ≡ Ok s
       → bins ≡ replicate (120 * m) zero32
       → (y ≡ spectrum m start end d seed energies) × (s ≡ (noise_shape m start seed (replicate (120 * m) zero32)).seed)
-  spectrum-left e z =
+  spectrum-left e h z =
       let q = reply-lent _ _ _ e (takes-is m start end d _ _ all_fit l b) in
       let o = over_zeros m start end d seed energies bins z in
-      (ap (λ (x : Shape). x.bins) q ∙ o.0, ap (λ (x : Shape). x.seed) q ∙ o.1)
+      (ap (λ (x : Shape). x.bins) q ∙ o.0, ap (value_or seed) (sym h) ∙ ap (λ (x : Shape). x.seed) q ∙ o.1)
+
+  -- it is not refused
+  pub spectrum-taken : {r : Result ℕ Refused} {e : Refused} {y : Shape} → replied r y ≡ spectrum-reply → r ≡ Err e → ⊥
+  spectrum-taken q e = let t = sym (ap is_ok e) ∙ reply-taken _ _ _ q ∙ takes-is m start end d _ _ all_fit l b in (cc)

@@ -1,41 +1,74 @@
-use mathlib.Core.Path.{◌≡◌, ◌∙◌, sym}
+-- A refusal that touches nothing, and the block.
 use mathlib.Core.Bool.{true}
-use Prim.Native.Nat.{◌*◌}
+use mathlib.Core.Path.{◌≡◌, refl, ap, ap₂, ◌∙◌, sym}
+use Prim.Native.Nat.{◌+◌, ◌*◌, ◌≤◌}
 use native.Mathlib.Omega.{arith}
+use lib.ListN.{length}
+use Rattle.reply.specs.Reply.{reply-yes, reply-no}
+use Rattle.buffers.specs.Buffers.{zero32}
 use Rattle.cosine_circle.specs.Circle.{is_frame_size}
-use Rattle.noise_block.proofs.Calls.{fits, frame-fits, block-taken, block_unfit, block-bands, block_size}
+use Rattle.mdct_pairs.proofs.Lent.{lent-values, lent-count, back-size}
+use Rattle.mdct_mirrored.proofs.Calls.{mirrored-taken}
+use Rattle.noise_spectrum.proofs.Calls.{spectrum-left, spectrum-taken}
+use Rattle.noise_block.specs.Block.{noise_block, drawn_block}
+use Rattle.noise_block.proofs.Calls.{takes, spectrum-fits, frame-fits, block-is}
 use Rattle.noise_block.proofs.noise_block.Goals as goal
+
+pub returns-then-not-block_takes : goal.returns-then-not-block_takes
+returns-then-not-block_takes c = reply-no _ _ _ (sym c.block_takes.ensures ∙ c.if-not-block_takes.true) refl
 
 pub factor-m-requires : goal.factor-m-requires
 factor-m-requires c =
-    let f = fits c.args.lm c.args.start c.args.end c.args.downsample (sym c.settings_fit.ensures ∙ c.if-settings_fit.true) in
-    f.small
+    let f = takes c.args.lm _ _ _ _ _ (sym c.block_takes.ensures ∙ c.if-not-block_takes.false) in
+    f.0.small
 
-pub fill_block-s-requires : goal.fill_block-s-requires
-fill_block-s-requires c =
-    let f = fits c.args.lm c.args.start c.args.end c.args.downsample (sym c.settings_fit.ensures ∙ c.if-settings_fit.true) in
-    let w : is_frame_size (120 * c.factor-m.result) ≡ true = frame-fits c.args.lm c.factor-m.result f.small c.factor-m.ensures.0 in
-    (c.factor-m.ensures.1, c.factor-m.ensures.2, w, omega arith, f.last, f.every, c.if-size-m.true, c.if-bands-eq-MAX_BANDS.true)
+pub returns-in_err-after : goal.returns-in_err-after
+returns-in_err-after c =
+    let f = takes c.args.lm _ _ _ _ _ (sym c.block_takes.ensures ∙ c.if-not-block_takes.false) in
+    let n = 120 * c.factor-m.result in
+    let h : n ≤ 960 = omega (arith, c.factor-m.ensures) in
+    let g = spectrum-fits _ c.factor-m.result _ _ _ f.0 c.factor-m.ensures.0 in
+    absurd (spectrum-taken _ _ _ _ _ _ _ g f.1 (sym (lent-count zero32 n 960 h)) c.noise_spectrum.ensures c.in_err-after.was)
 
-pub returns-then-size-m : goal.returns-then-size-m
-returns-then-size-m c =
+pub returns-in_err-imdct_mirrored_f32 : goal.returns-in_err-imdct_mirrored_f32
+returns-in_err-imdct_mirrored_f32 c =
+    let f = takes c.args.lm _ _ _ _ _ (sym c.block_takes.ensures ∙ c.if-not-block_takes.false) in
+    let n = 120 * c.factor-m.result in
+    let h : n ≤ 960 = omega (arith, c.factor-m.ensures) in
+    let k : 2 * n ≤ 1920 = omega arith in
+    let s = c.noise_spectrum in
+    let l = back-size zero32 n 960 h s.new.bins s.auto.bins in
+    let z : is_frame_size (length s.new.bins) ≡ true = ap is_frame_size l ∙ frame-fits c.args.lm _ f.0.small c.factor-m.ensures.0 in
+    let o = lent-count zero32 (2 * n) 1920 k in
+    absurd (mirrored-taken _ _ z (sym o ∙ ap (λ y. 2 * y) (sym l)) c.imdct_mirrored_f32.ensures c.in_err-imdct_mirrored_f32.was)
+
+pub window_outputs-requires : goal.window_outputs-requires
+window_outputs-requires c =
+    let f = takes c.args.lm _ _ _ _ _ (sym c.block_takes.ensures ∙ c.if-not-block_takes.false) in
+    let n = 120 * c.factor-m.result in
+    let k : 2 * n ≤ 1920 = omega (arith, c.factor-m.ensures) in
+    let i = c.imdct_mirrored_f32 in (
+      omega (arith, c.factor-m.ensures),
+      omega arith,
+      back-size zero32 (2 * n) 1920 k i.new.out i.auto.out,
+      f.2 ∙ ap (λ y. 120 * y + 120) (sym c.factor-m.ensures.0),
+    )
+
+pub returns : goal.returns
+unfolding noise_block
+returns c =
+    let f = takes c.args.lm _ _ _ _ _ (sym c.block_takes.ensures ∙ c.if-not-block_takes.false) in
     let a = c.args in
-    let r = c.fill_block-s in
-    block-taken a.lm a.start a.end a.downsample a.seed a.energies.now a.block.now c.factor-m.result r.result r.new.block
-    (sym c.settings_fit.ensures ∙ c.if-settings_fit.true) c.if-bands-eq-MAX_BANDS.true
-    c.if-size-m.true c.factor-m.ensures.0 r.ensures.0 r.ensures.1
-
-pub returns-else-size-m : goal.returns-else-size-m
-returns-else-size-m c =
-    let a = c.args in
-    block_size a.lm a.start a.end a.downsample a.seed a.energies.now a.block.now c.factor-m.result c.factor-m.ensures.0 c.if-size-m.false
-
-pub returns-else-bands-eq-MAX_BANDS : goal.returns-else-bands-eq-MAX_BANDS
-returns-else-bands-eq-MAX_BANDS c =
-    let a = c.args in
-    block-bands a.lm a.start a.end a.downsample a.seed a.energies.now a.block.now c.if-bands-eq-MAX_BANDS.false
-
-pub returns-else-settings_fit : goal.returns-else-settings_fit
-returns-else-settings_fit c =
-    let a = c.args in
-    block_unfit a.lm a.start a.end a.downsample a.seed a.energies.now a.block.now (sym c.settings_fit.ensures ∙ c.if-settings_fit.false)
+    let m = c.factor-m.result in
+    let n = 120 * m in
+    let h : n ≤ 960 = omega (arith, c.factor-m.ensures) in
+    let k : 2 * n ≤ 1920 = omega arith in
+    let g = spectrum-fits a.lm m a.span.start a.span.end a.span.downsample f.0 c.factor-m.ensures.0 in
+    let p = c.noise_spectrum in
+    let i = c.imdct_mirrored_f32 in
+    let s = spectrum-left m _ _ _ a.seed a.energies.now _ g f.1 (sym (lent-count zero32 n 960 h)) p.ensures c.in_ok-after.was (lent-values zero32 n 960 h) in
+    let b = block-is m a.span.start a.span.end a.span.downsample a.seed a.energies.now p.new.bins _ i.new.out _ i.result
+    (frame-fits a.lm m f.0.small c.factor-m.ensures.0) s.0 (back-size zero32 n 960 h p.new.bins p.auto.bins)
+    (sym (lent-count zero32 (2 * n) 1920 k)) i.ensures c.window_outputs.ensures in
+    reply-yes _ _ _ (sym c.block_takes.ensures ∙ c.if-not-block_takes.false)
+    (ap₂ drawn_block b s.1 ∙ ap (λ z. noise_block z a.span.start a.span.end a.span.downsample a.seed a.energies.now) c.factor-m.ensures.0)
