@@ -1,14 +1,17 @@
 -- What laying a block over a tail rests on.
 use mathlib.Core.Path.{◌≡◌, ap, ap₂, ◌∙◌, sym}
+use mathlib.Core.Bool.{true, false}
 use mathlib.Core.List.{List, [], ◌++◌, append-nil}
-use Prim.Native.Nat.{ℕ, ◌+◌, ◌-◌, ◌≤◌}
+use Prim.Native.Nat.{ℕ, ◌+◌, ◌-◌, ◌≤◌, ◌<◌}
 use native.Mathlib.Omega.{arith}
 use lib.ListN.{length, get_or, take, drop, length-drop, drop_of_length-le}
-use lib.Seq.{get_or-append-add, get_or-drop, take_all, take_at}
+use lib.Seq.{get_or-append-add, get_or-drop, take_at}
 use lib.Ieee.{Float, nan, binary32, add}
+use borrow.Author.Tests.{le-leb, lt-leb, eq-eqb, ne_eqb}
+use lib.Dec.{leb, eqb}
+use Rattle.loops.specs.Logic.{and_both, and_first, and_second}
 use Rattle.loops.specs.Front.{front, tab, length-tab}
-use Rattle.copying.specs.Copy.{copied, copied_all}
-use Rattle.noise_cover.specs.Cover.{overlapped}
+use Rattle.noise_cover.specs.Cover.{overlapped, lay_takes}
 
 -- what stands at k is not yet written
 pub front-later : (d : Float) (xs b out : List Float) (i k : ℕ) → b ≡ front out xs i → length out ≡ i → i ≤ k → get_or b k d ≡ get_or xs k d
@@ -32,16 +35,25 @@ sum-at n j block tail₀ tail e =
 
 -- the overlap-add, and then the rest of the block copied: y came back for the part from 120 on
 pub lay_is : (block over first t y : List Float) → t ≡ front (tab (sum_at block over) 120) first 120 → length t ≡ length block → 120 ≤ length block
-    → y ≡ copied (take (length block - 120) (drop 120 block)) (take (length t - 120) (drop 120 t))
+    → y ≡ drop 120 block
     → take 120 t ++ (y ++ drop (length t - 120) (drop 120 t)) ≡ overlapped block over ++ drop 120 block
 unfolding front overlapped
 lay_is block over first t y e l h ey =
-    let b = length-drop 120 block in
     let a = length-drop 120 t in
-    let p : take (length block - 120) (drop 120 block) ≡ drop 120 block = take_all (length block - 120) (drop 120 block) (omega arith) in
-    let q : take (length t - 120) (drop 120 t) ≡ drop 120 t = take_all (length t - 120) (drop 120 t) (omega arith) in
     let r : drop (length t - 120) (drop 120 t) ≡ [] = drop_of_length-le (drop 120 t) {i = length t - 120} (omega arith) in
-    let v : y ≡ drop 120 block = ey ∙ ap₂ copied p q ∙ copied_all (drop 120 block) (drop 120 t) (omega arith) in
     let s : take 120 t ≡ tab (sum_at block over) 120 =
     ap (take 120) e ∙ take_at (tab (sum_at block over) 120) (drop 120 first) 120 (length-tab (sum_at block over) 120) in
-    ap₂ (λ x z. x ++ z) s (ap₂ (λ x z. x ++ z) v r ∙ append-nil (drop 120 block))
+    ap₂ (λ x z. x ++ z) s (ap₂ (λ x z. x ++ z) ey r ∙ append-nil (drop 120 block))
+
+-- what lay takes
+pub lay-takes : (n m : ℕ) → 240 ≤ n → m ≡ n → lay_takes n m ≡ true
+unfolding lay_takes
+lay-takes n m h e = and_both (leb 240 n) (eqb m n) (le-leb 240 n h) (eq-eqb m n e)
+
+pub lay-short : (n m : ℕ) → n < 240 → lay_takes n m ≡ false
+unfolding lay_takes
+lay-short n m h = and_first (leb 240 n) (eqb m n) (lt-leb 240 n h)
+
+pub lay-other : (n m : ℕ) → (m ≡ n → ⊥) → lay_takes n m ≡ false
+unfolding lay_takes
+lay-other n m h = and_second (leb 240 n) (eqb m n) (ne_eqb m n h)

@@ -1,6 +1,6 @@
 -- A noise block over a channel of a history.
 use mathlib.Core.Path.{◌≡◌, ap, ap₂, ◌∙◌, sym}
-use mathlib.Core.Bool.{Bool}
+use mathlib.Core.Bool.{Bool, true}
 use mathlib.Core.List.{List, ◌++◌, append_assoc}
 use Prim.Native.Nat.{ℕ, ◌+◌, ◌*◌, ◌-◌, ◌≤◌}
 use native.Mathlib.Omega.{arith}
@@ -11,22 +11,30 @@ use lib.Ieee.{Float}
 use borrow.Author.Tests.{le-leb, eq-eqb}
 use Rattle.loops.specs.Logic.{and_both}
 use Rattle.loops.specs.Part.{put, drop-slice}
-use Rattle.reply.specs.Reply.{reply, reply_if, reply-lent}
+use Rattle.reply.specs.Reply.{Reply, reply, reply_if, reply-lent, reply-taken}
 use Rattle.history.specs.History.{half, samples, overlap, channel, tail_at, tail_list}
 use Rattle.history.proofs.Parts.{slice-take, put-inner}
 use Rattle.noise_cover.specs.Cover.{overlapped, covered_tail, lay_takes}
 
 -- what lay leaves of a tail of n samples and the overlap, lent with a block as long
-pub laid-is : (n : ℕ) (t block y : List Float) (took : Bool) → overlap ≤ n → length t ≡ n + overlap → length block ≡ n + overlap
-    → reply took y ≡ reply_if (lay_takes (length t) (length block)) (overlapped block (drop (length t - overlap) t) ++ drop overlap block) t
-    → y ≡ overlapped block (drop n t) ++ drop overlap block
-unfolding lay_takes
-laid-is n t block y took low l k r =
-    let p : 2 * overlap ≤ length t = omega arith in
-    let q : length block ≡ length t = omega arith in
-    let e : length t - overlap ≡ n = omega arith in
-    reply-lent _ _ _ r (and_both (leb (2 * overlap) (length t)) (eqb (length block) (length t)) (le-leb _ _ p) (eq-eqb _ _ q))
-    ∙ ap (λ z. overlapped block (drop z t) ++ drop overlap block) e
+module _ (n : ℕ) (t block : List Float) (low : overlap ≤ n) (l : length t ≡ n + overlap) (k : length block ≡ n + overlap) where
+  taken : lay_takes (length t) (length block) ≡ true
+  unfolding lay_takes
+  taken =
+      let p : 2 * overlap ≤ length t = omega arith in
+      let q : length block ≡ length t = omega arith in
+      and_both (leb (2 * overlap) (length t)) (eqb (length block) (length t)) (le-leb _ _ p) (eq-eqb _ _ q)
+
+  abbrev lay-reply : Reply (List Float)
+  lay-reply = reply_if (lay_takes (length t) (length block)) (overlapped block (drop (length t - overlap) t) ++ drop overlap block) t
+
+  pub laid-taken : {b : Bool} {y : List Float} → reply b y ≡ lay-reply → b ≡ true
+  laid-taken e = reply-taken _ _ _ e ∙ taken
+
+  pub laid-is : {b : Bool} {y : List Float} → reply b y ≡ lay-reply → y ≡ overlapped block (drop n t) ++ drop overlap block
+  laid-is r =
+      let e : length t - overlap ≡ n = omega arith in
+      reply-lent _ _ _ r taken ∙ ap (λ z. overlapped block (drop z t) ++ drop overlap block) e
 
 -- the samples of a channel that a block is laid over, y having come back for the m of them from `from` on
 module _ (at n : ℕ) (h block : List Float) (l : at + channel ≤ length h) (low : overlap ≤ n) (high : n ≤ half) (k : length block ≡ n + overlap) where

@@ -10,8 +10,10 @@ use lib.Ieee.{Float}
 use borrow.Author.Tests.{le-leb, lt-ltb, eq-eqb, ne_eqb}
 use Rattle.loops.specs.Logic.{and_both, and_first, and_second}
 use Rattle.loops.specs.Part.{put}
-use Rattle.reply.specs.Reply.{reply, reply_if, reply-lent}
-use Rattle.history.specs.History.{half, samples, overlap, channel, whole, Tail, Tails, tail_at, tails, with_tails, tail_list}
+use Rattle.std.specs.Prelude.{Result, Ok}
+use Rattle.reply.specs.declared.Refused.{Refused}
+use Rattle.reply.specs.Reply.{Reply, reply, replied, value_or, reply_if, reply-lent, reply-taken}
+use Rattle.history.specs.History.{half, overlap, channel, whole, Tail, Tails, tail_at, tails, with_tails, tail_list}
 use Rattle.history.proofs.Parts.{TailSized, Sized, first-sized, second-sized, tails-with, put_first, put_both}
 use Rattle.settings.specs.Settings.{factor, frame, stereo, check_settings}
 use Rattle.settings.specs.declared.Settings.{Settings}
@@ -34,14 +36,23 @@ module _ (k : Settings) (good : check_settings k ≡ 0) where
       )
 
   -- what noise_block leaves in a buffer of the right size
-  pub block-drawn : (e part y : List Float) (seed s : ℕ) (took : Bool) → length e ≡ 25 → length part ≡ frame k + overlap
-      → reply took (drawn_block y s)
-      ≡ reply_if (block_takes k.lm k.start k.end k.downsample (length e) (length part))
-      (noise_block (2 ^ k.lm) k.start k.end k.downsample seed e) (drawn_block part seed)
-      → drawn_block y s ≡ channel_block k seed e
-  unfolding channel_block factor frame block_takes
-  block-drawn e part y seed s took le lp r =
-      reply-lent _ _ _ r (ap₂ ◌&&◌ fit (ap₂ ◌&&◌ (eq-eqb (length e) 25 le) (eq-eqb (length part) (120 * 2 ^ k.lm + 120) lp)))
+  module _ (e part : List Float) (seed : ℕ) (le : length e ≡ 25) (lp : length part ≡ frame k + overlap) where
+    abbrev block-reply : Reply Block
+    block-reply =
+        reply_if (block_takes k.lm k.start k.end k.downsample (length e) (length part))
+        (noise_block (2 ^ k.lm) k.start k.end k.downsample seed e) (drawn_block part seed)
+
+    takes : block_takes k.lm k.start k.end k.downsample (length e) (length part) ≡ true
+    unfolding block_takes frame factor
+    takes = ap₂ ◌&&◌ fit (ap₂ ◌&&◌ (eq-eqb (length e) 25 le) (eq-eqb (length part) (120 * 2 ^ k.lm + 120) lp))
+
+    pub block-taken : {b : Bool} {y : Block} → reply b y ≡ block-reply → b ≡ true
+    block-taken q = reply-taken _ _ _ q ∙ takes
+
+    pub block-drawn : {r : Result ℕ Refused} {y : List Float} {s : ℕ} → replied r (drawn_block y (value_or seed r)) ≡ block-reply → r ≡ Ok s
+        → drawn_block y s ≡ channel_block k seed e
+    unfolding channel_block factor
+    block-drawn {y = y} q h = ap (λ r. drawn_block y (value_or seed r)) (sym h) ∙ reply-lent _ _ _ q takes
 
   pub length-channel_block : (seed : ℕ) (e : List Float) → length (channel_block k seed e).samples ≡ frame k + overlap
   unfolding channel_block frame

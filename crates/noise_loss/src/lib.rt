@@ -4,21 +4,22 @@
 
 ghost use Rattle.std.specs.Prelude.{◌≡◌, ◌+◌, ◌≤◌, length};
 ghost use Rattle.loops.specs.Part.{put};
-ghost use Rattle.reply.specs.Reply.{reply, reply_if};
+ghost use Rattle.reply.specs.Reply.{replied, reply_if, value_or};
 ghost use Rattle.custom_mode.specs.Mode.{max_bands};
 ghost use Rattle.history.specs.History.{half, overlap, channel, whole, tail_at, tail_list};
 ghost use Rattle.settings.specs.Settings.{frame, check_settings};
 ghost use Rattle.noise_cover.specs.Cover.{covered_tail};
 ghost use Rattle.noise_loss.specs.Loss.{channel_block, noised, after_noise, noise_takes};
 
-use noise_block::{Drawn, noise_block};
+use custom_mode::standard::MAX_BANDS;
+use history::{CHANNEL, OVERLAP, SAMPLES, WHOLE};
+use noise_block::{BLOCK_MOST, noise_block};
 use noise_cover::lay;
+use noise_spectrum::Span;
+use reply::Refused;
 use settings::Settings;
 use settings::checks::settings_pass;
 use sizes::frame_size;
-
-// The longest block: a frame of 960 samples and the overlap.
-const BLOCK_MOST: usize = 1080;
 
 // One channel, whose samples start at `at`, from its 25 energies; the seed after its block.
 fn noise_channel(history: &mut [f32], at: usize, k: Settings, seed: u32, energies: &[f32]) -> u32
@@ -28,17 +29,17 @@ fn noise_channel(history: &mut [f32], at: usize, k: Settings, seed: u32, energie
         (tail_list (covered_tail (frame k) (channel_block k seed energies.now).samples (tail_at at history.old))) history.old) }
 {
     let n = frame_size(k.lm);
-    let size = n + history::OVERLAP;
-    let mut block = [0.0f32; BLOCK_MOST];
-    let lm = k.lm as usize;
-    let first = k.start as usize;
-    let last = k.end as usize;
-    let d = k.downsample as usize;
-    let drawn = noise_block(&mut block[..size], lm, first, last, d, seed, energies);
-    let from = at + (history::SAMPLES - n);
-    let end = at + history::CHANNEL;
-    lay(&mut history[from..end], &block[..size]);
-    drawn.seed
+    let span = Span {
+        start: k.start as usize,
+        end: k.end as usize,
+        downsample: k.downsample as usize,
+    };
+    let mut room = [0.0f32; BLOCK_MOST];
+    let block = &mut room[..n + OVERLAP];
+    let after = noise_block(block, k.lm as usize, span, seed, energies).unwrap();
+    let from = at + (SAMPLES - n);
+    lay(&mut history[from..at + CHANNEL], block).unwrap();
+    after
 }
 
 // Each used channel, from both channels' energies. The second goes on from the first one's seed.
@@ -46,30 +47,26 @@ fn noise_channels(history: &mut [f32], k: Settings, seed: u32, energies: [f32; 5
     requires { (check_settings k ≡ 0) × (length history.old ≡ whole) }
     ensures { noised history.new result ≡ after_noise k seed energies history.old }
 {
-    let one = noise_channel(history, 0, k, seed, &energies[0..25]);
+    let one = noise_channel(history, 0, k, seed, &energies[..MAX_BANDS]);
     if k.channels == 2 {
-        return noise_channel(history, history::CHANNEL, k, one, &energies[25..50]);
+        noise_channel(history, CHANNEL, k, one, &energies[MAX_BANDS..])
+    } else {
+        one
     }
-    one
 }
 
-// A noise loss of a whole history, from the energies of both channels.
-pub fn noise_loss(k: Settings, history: &mut [f32], seed: u32, energies: [f32; 50]) -> Drawn
-    ensures { reply result.taken (noised history.new result.seed)
+// A noise loss of a whole history, from the energies of both channels: answers the seed after its blocks.
+pub fn noise_loss(
+    k: Settings,
+    history: &mut [f32],
+    seed: u32,
+    energies: [f32; 50],
+) -> Result<u32, Refused>
+    ensures { replied result (noised history.new (value_or seed result))
         ≡ reply_if (noise_takes k (length history.old)) (after_noise k seed energies history.old) (noised history.old seed) }
 {
-    let n = history.len();
-    if settings_pass(k) {
-        if n == history::WHOLE {
-            let s = noise_channels(history, k, seed, energies);
-            return Drawn {
-                taken: true,
-                seed: s,
-            };
-        }
+    if !settings_pass(k) || history.len() != WHOLE {
+        return Err(Refused);
     }
-    Drawn {
-        taken: false,
-        seed: seed,
-    }
+    Ok(noise_channels(history, k, seed, energies))
 }

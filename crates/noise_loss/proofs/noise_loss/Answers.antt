@@ -1,27 +1,23 @@
+-- Each refusal by its test, and the blocks.
 use mathlib.Core.Path.{refl, ◌∙◌, sym}
-use lib.ListN.{length}
+use mathlib.Core.Logic.{inl, inr}
 use Rattle.reply.specs.Reply.{reply-yes, reply-no}
 use Rattle.settings.proofs.Passed.{good}
+use borrow.Author.Rules.{rules}
 use Rattle.noise_loss.proofs.Channels.{takes_whole, takes-no_settings, takes-not-whole}
 use Rattle.noise_loss.proofs.noise_loss.Goals as goal
 
-pub noise_channels-s-requires : goal.noise_channels-s-requires
-noise_channels-s-requires c =
-    let a = c.args in
-    (good a.k _ c.settings_pass.ensures c.if-settings_pass.true, c.if-n-eq-WHOLE.true)
+pub returns-then-not-settings_pass : goal.returns-then-not-settings_pass
+returns-then-not-settings_pass c =
+    reply-no _ _ _
+    (elim c.then-not-settings_pass.either [
+      | inl h ↦ takes-no_settings c.args.k _ (sym c.settings_pass.ensures ∙ h)
+      | inr h ↦ takes-not-whole c.args.k _ h.1
+    ]) refl
 
-pub returns-then-n-eq-WHOLE : goal.returns-then-n-eq-WHOLE
-returns-then-n-eq-WHOLE c =
-    let a = c.args in
-    reply-yes _ _ _ (takes_whole a.k (length a.history.now) (sym c.settings_pass.ensures ∙ c.if-settings_pass.true) c.if-n-eq-WHOLE.true)
-    c.noise_channels-s.ensures
+pub noise_channels-requires : goal.noise_channels-requires
+noise_channels-requires c = (good c.args.k _ c.settings_pass.ensures c.if-not-settings_pass.false, search rules)
 
-pub returns-else-n-eq-WHOLE : goal.returns-else-n-eq-WHOLE
-returns-else-n-eq-WHOLE c =
-    let a = c.args in
-    reply-no _ _ _ (takes-not-whole a.k (length a.history.now) c.if-n-eq-WHOLE.false) refl
-
-pub returns-else-settings_pass : goal.returns-else-settings_pass
-returns-else-settings_pass c =
-    let a = c.args in
-    reply-no _ _ _ (takes-no_settings a.k (length a.history.now) (sym c.settings_pass.ensures ∙ c.if-settings_pass.false)) refl
+pub returns : goal.returns
+returns c =
+    reply-yes _ _ _ (takes_whole c.args.k _ (sym c.settings_pass.ensures ∙ c.if-not-settings_pass.false) (search rules)) c.noise_channels.ensures
