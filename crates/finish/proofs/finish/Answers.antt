@@ -9,9 +9,6 @@ returns-in_err-first_refusal c =
     let x = c.args in
     finished-refused x.s x.made x.history.now x.pcm.now _ _ (exit_is _ _ c.from_residual.ensures.1) c.in_err-first_refusal.ensures
 
-pub conclude-requires : goal.conclude-requires
-conclude-requires c = sym c.in_ok-first_refusal.ensures
-
 pub returns : goal.returns
 returns c =
     let x = c.args in
