@@ -2,16 +2,17 @@
 use mathlib.Core.Path.{◌≡◌, refl, ap, ◌∙◌, sym, subst}
 use mathlib.Core.Bool.{Bool, true, false, cond}
 use mathlib.Core.List.{List, [], ◌∷◌, ◌++◌}
-use Prim.Native.Nat.{ℕ, ◌*◌, ◌≤◌, ◌<◌}
+use Prim.Native.Nat.{ℕ, ◌*◌, ◌≤◌}
 use native.Mathlib.Omega.{arith}
 use lib.ListN.{length, take, drop, length-append}
 use lib.Seq.{take_at, take-length}
 use Rattle.std.specs.Prelude.{Result, Ok, Err}
-use lib.Dec.{leb, eqb}
+use Rattle.std.proofs.lemmas.Bool.Decides.{nat_tests}
+use lib.Dec.{eqb}
 use lib.Ieee.{Float}
-use borrow.Author.Tests.{eq-eqb, ne_eqb, le-leb, lt-leb}
+use borrow.Author.Tests.{ne_eqb}
 use Rattle.loops.specs.Front.{front}
-use Rattle.loops.specs.Logic.{and_both, and_first, and_second, cond_either}
+use Rattle.loops.specs.Logic.{cond_either}
 use Rattle.loops.specs.Pick.{pick_true, pick-false}
 use Rattle.history.specs.History.{whole}
 use Rattle.reply.specs.declared.Refused.{Refused}
@@ -103,15 +104,7 @@ module _ (b lent : List ℕ) (room : head_most ≤ length lent) where
 module _ (b h : List ℕ) where
   pub accepted : length b ≡ record_length → head_most ≤ length h → takes b h ≡ true
   unfolding takes
-  accepted p q = and_both (eqb (length b) record_length) (leb head_most (length h)) (eq-eqb (length b) record_length p) (le-leb head_most (length h) q)
-
-  pub not-record : (length b ≡ record_length → ⊥) → takes b h ≡ false
-  unfolding takes
-  not-record n = and_first (eqb (length b) record_length) (leb head_most (length h)) (ne_eqb (length b) record_length n)
-
-  pub no_room : length h < head_most → takes b h ≡ false
-  unfolding takes
-  no_room q = and_second (eqb (length b) record_length) (leb head_most (length h)) (lt-leb head_most (length h) q)
+  accepted p q = grind (arith, nat_tests)
 
   pub answers : takes b h ≡ true → with_record (headed_by (head_of (loss_of b)) h) (record_after b) ≡ answer_record b h
   unfolding answer_record

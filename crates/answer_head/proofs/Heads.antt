@@ -1,16 +1,17 @@
 -- The head's bytes, part by part.
 use mathlib.Core.Path.{◌≡◌, refl, ap, ap₂, ◌∙◌, sym, subst}
-use mathlib.Core.Bool.{true, false}
+use mathlib.Core.Bool.{true}
 use mathlib.Core.List.{List, [], ◌∷◌, ◌++◌}
-use Prim.Native.Nat.{ℕ, ◌+◌, ◌*◌, ◌≤◌, ◌<◌}
+use Prim.Native.Nat.{ℕ, ◌+◌, ◌*◌, ◌≤◌}
 use native.Mathlib.Omega.{arith}
 use lib.ListN.{length, get_or, take, length-append}
 use lib.Dec.{leb, eqb}
 use lib.Ieee.{Float, binary32, to_bits}
 use lib.Seq.{take-length}
-use borrow.Author.Tests.{eq-eqb, ne_eqb, le-leb, lt-leb}
+use Rattle.std.proofs.lemmas.Bool.Decides.{nat_tests}
+use borrow.Author.Tests.{eq-eqb, ne_eqb, le-leb}
 use Rattle.loops.specs.Front.{front}
-use Rattle.loops.specs.Logic.{and_both, and_first, and_second, cond_either}
+use Rattle.loops.specs.Logic.{cond_either}
 use Rattle.loops.specs.Part.{put, put_front, put_next}
 use Rattle.loops.specs.Pick.{pick_true}
 use Rattle.words.specs.Bytes.{words_bytes, floats_bytes, values_bytes, float-bytes_are_values}
@@ -30,20 +31,10 @@ head-parts a b c xs h y z p q =
     q ∙ ap (put 12 (4 * length xs) x) (p ∙ put_front 12 w h) ∙ put_next 12 (4 * length xs) w x h lw in
     ap₂ headed count (bytes ∙ ap (front (w ++ x) h) count)
 
--- what there is room for
-module _ (n m : ℕ) where
-  pub head-fits : head_most ≤ m → n ≤ samples_most → head_fits n n m ≡ true
-  unfolding head_fits
-  head-fits p q =
-      and_both (leb head_most m) _ (le-leb head_most m p) (and_both (leb n samples_most) _ (le-leb n samples_most q) (le-leb n n (omega arith)))
-
-  pub head-no-room : m < head_most → head_fits n n m ≡ false
-  unfolding head_fits
-  head-no-room p = and_first (leb head_most m) _ (lt-leb head_most m p)
-
-  pub head_too_many : samples_most < n → head_fits n n m ≡ false
-  unfolding head_fits
-  head_too_many q = and_second (leb head_most m) _ (and_first (leb n samples_most) _ (lt-leb n samples_most q))
+-- there is room for a head
+pub head-fits : (n m : ℕ) → head_most ≤ m → n ≤ samples_most → head_fits n n m ≡ true
+unfolding head_fits
+head-fits n m p q = grind (arith, nat_tests)
 
 module _ (number kind : ℕ) (pcm : List Float) (h : List ℕ) (fits : head_fits (length pcm) (length pcm) (length h) ≡ true) where
   -- all the samples

@@ -1,22 +1,17 @@
 -- A record's bytes, part by part.
 use mathlib.Core.Path.{◌≡◌, ap, ap₂, ◌∙◌}
-use mathlib.Core.Bool.{true, false}
 use mathlib.Core.List.{List, ◌++◌, append-nil}
 use Prim.Native.Nat.{ℕ, ◌+◌, ◌*◌}
 use native.Mathlib.Omega.{arith}
 use lib.ListN.{length, drop_of_length-le}
-use lib.Dec.{eqb}
 use lib.Ieee.{Float, binary32, to_bits}
-use borrow.Author.Tests.{eq-eqb, ne_eqb}
-use Rattle.loops.specs.Logic.{and_both, and_first, and_second}
 use Rattle.loops.specs.Part.{put, put_front, put_next}
 use Rattle.loops.specs.Front.{front}
-use Rattle.history.specs.History.{whole}
 use Rattle.state.specs.declared.State.{State}
 use Rattle.words.specs.Bytes.{words_bytes, floats_bytes, values_bytes, words_are_values, float-bytes_are_values}
 use Rattle.words.proofs.Laws.{length-bytes}
 use Rattle.state_words.specs.Words.{state_length, state_words}
-use Rattle.record.specs.Record.{state_bytes, record_of, record_length, writable}
+use Rattle.record.specs.Record.{state_bytes, record_of}
 
 -- a record's bytes: the words of its state, and the history's behind them
 pub record-parts : (s : State) (xs : List Float) (n : ℕ) (w h b d : List ℕ) → w ≡ state_words s → length w ≡ state_length
@@ -28,17 +23,3 @@ record-parts s xs n w h b d e l p q k =
     q ∙ ap₂ (λ y z. put 644 n y z) (float-bytes_are_values xs) u ∙ put_next 644 n (words_bytes w) (floats_bytes xs) h (length-bytes _ (length w) ∙ m)
     ∙ ap (λ z. (words_bytes w ++ floats_bytes xs) ++ z) (drop_of_length-le h {i = 644 + n} (omega arith)) ∙ append-nil _
     ∙ ap (λ z. words_bytes z ++ floats_bytes xs) e
-
--- when a record is written
-module _ (b : List ℕ) (h : List Float) where
-  pub is-writable : length b ≡ record_length → length h ≡ whole → writable b h ≡ true
-  unfolding writable
-  is-writable p q = and_both (eqb (length b) record_length) (eqb (length h) whole) (eq-eqb (length b) record_length p) (eq-eqb (length h) whole q)
-
-  pub not-a-record : (length b ≡ record_length → ⊥) → writable b h ≡ false
-  unfolding writable
-  not-a-record n = and_first (eqb (length b) record_length) (eqb (length h) whole) (ne_eqb (length b) record_length n)
-
-  pub not-a_history : (length h ≡ whole → ⊥) → writable b h ≡ false
-  unfolding writable
-  not-a_history n = and_second (eqb (length b) record_length) (eqb (length h) whole) (ne_eqb (length h) whole n)

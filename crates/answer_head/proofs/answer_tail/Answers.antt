@@ -1,6 +1,6 @@
 -- `answer_tail` meets its contract: nothing for nothing, three words for a cut record.
-use Rattle.std.proofs.Common.{true≢false, refl, ap, sym, ◌∙◌, arith, le-leb}
-use borrow.Author.Tests.{lt-leb}
+use Rattle.std.proofs.Common.{true≢false, refl, ap, sym, ◌∙◌, arith}
+use Rattle.std.proofs.lemmas.Bool.Decides.{nat_tests}
 use Rattle.std.specs.Prelude.{is_ok}
 use Rattle.reply.specs.Reply.{reply-yes, reply-no}
 use Rattle.words.proofs.Laws.{put-held, put-taken}
@@ -8,12 +8,12 @@ use Rattle.answer_head.proofs.Heads.{tail_none, tail-cut}
 use Rattle.answer_head.proofs.answer_tail.Goals as goal
 
 pub returns-then-head-lt-REPORT_BYTES : goal.returns-then-head-lt-REPORT_BYTES
-returns-then-head-lt-REPORT_BYTES c = reply-no _ _ _ (lt-leb _ _ c.if-head-lt-REPORT_BYTES.true) refl
+returns-then-head-lt-REPORT_BYTES c = reply-no _ _ _ (grind (arith, nat_tests)) refl
 
 pub returns-then-n-eq0 : goal.returns-then-n-eq0
 returns-then-n-eq0 c =
     let room = c.if-head-lt-REPORT_BYTES.false in
-    reply-yes _ _ _ (le-leb _ _ room) (tail_none c.args.n c.args.head.now room c.if-n-eq0.true)
+    reply-yes _ _ _ (grind (arith, nat_tests)) (tail_none c.args.n c.args.head.now room c.if-n-eq0.true)
 
 pub returns-in_err-put_values_at : goal.returns-in_err-put_values_at
 returns-in_err-put_values_at c =
@@ -24,4 +24,4 @@ returns c =
     let a = c.args in
     let room = c.if-head-lt-REPORT_BYTES.false in
     let written = put-held a.head.now 0 3 _ c.put_values_at.ensures (omega arith) in
-    reply-yes _ _ _ (le-leb _ _ room) (tail-cut a.n a.head.now room c.if-n-eq0.false _ written)
+    reply-yes _ _ _ (grind (arith, nat_tests)) (tail-cut a.n a.head.now room c.if-n-eq0.false _ written)

@@ -1,18 +1,16 @@
 -- `write_head` meets its contract: three words, and the samples behind them.
 use Rattle.std.proofs.Common.{true≢false, refl, ap, sym, ◌∙◌, length, arith}
 use Rattle.std.specs.Prelude.{is_ok}
+use Rattle.std.proofs.lemmas.Bool.Decides.{nat_tests}
+use Rattle.answer_head.specs.Head.{head_fits}
 use Rattle.reply.specs.Reply.{reply-yes, reply-no}
 use Rattle.words.proofs.Laws.{put-held, put-taken}
-use Rattle.answer_head.proofs.Heads.{head-fits, head-no-room, head_too_many, head-written}
+use Rattle.answer_head.proofs.Heads.{head-fits, head-written}
 use Rattle.answer_head.proofs.write_head.Goals as goal
-use Rattle.answer_head.proofs.write_head.Goals.{then-head-lt-HEAD_BYTES-via-then-head-lt-HEAD_BYTES, then-head-lt-HEAD_BYTES-via-else-head-lt-HEAD_BYTES+then-samples-gt-SAMPLES_MOST}
 
 pub returns-then-head-lt-HEAD_BYTES : goal.returns-then-head-lt-HEAD_BYTES
-returns-then-head-lt-HEAD_BYTES c =
-    elim c.then-head-lt-HEAD_BYTES.branch [
-      | then-head-lt-HEAD_BYTES-via-then-head-lt-HEAD_BYTES w ↦ reply-no _ _ _ (head-no-room _ _ w.if-head-lt-HEAD_BYTES.true) refl
-      | then-head-lt-HEAD_BYTES-via-else-head-lt-HEAD_BYTES+then-samples-gt-SAMPLES_MOST w ↦ reply-no _ _ _ (head_too_many _ _ w.if-samples-gt-SAMPLES_MOST.true) refl
-    ]
+unfolding head_fits
+returns-then-head-lt-HEAD_BYTES c = reply-no _ _ _ (grind (arith, nat_tests)) refl
 
 pub returns-in_err-put_values_at : goal.returns-in_err-put_values_at
 returns-in_err-put_values_at c =
