@@ -23,8 +23,7 @@ pub(crate) fn noise_made(s: State, history: &mut [f32]) -> Made
         s.loss_count,
     );
     let energies = read_energies(coarse, s.background, s.loss_count);
-    let drawn = noise_loss(k, history, s.seed, energies);
-    let seed = drawn.seed;
+    let seed = noise_loss(k, history, s.seed, energies).unwrap();
     let predictor = s.predictor;
     Made {
         kind: Kind::Noise,
