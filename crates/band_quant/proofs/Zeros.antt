@@ -6,13 +6,10 @@ use Rattle.std.specs.Float.Ieee.{add, mul, div, of_bits}
 use Rattle.loops.specs.Sum.{sum_to, sum-none, sum_more}
 use Rattle.buffers.specs.Buffers.{times, one32}
 use Rattle.float_narrow.specs.Narrow.{narrow}
-use Rattle.float_root.specs.Root.{sqrt_of, twice_root, root_to}
+use Rattle.float_root.specs.Root.{sqrt_of}
 use Rattle.band_quant.specs.Renormalise.{square64_at, floor64, energy64, factor_of, renormalise_vector}
+use Rattle.band_quant.proofs.Factor.{factor, factor-is}
 use Rattle.band_quant.specs.Zeros.{Zero, AllZero}
-
--- 1 over the square root of 1e-15
-abbrev factor : Float
-factor = of_bits binary32 0x4bf1_433d
 
 square-none : (v : Float) → Zero v → add binary64 floor64 (mul binary64 v v) ≡ floor64
 unfolding add mul of_bits
@@ -31,10 +28,6 @@ sum-floor xs (suc n) z =
     ∙ sym (sum_more binary64 (square64_at xs) floor64 (sum_to binary64 (square64_at xs) floor64 n) n refl)
     ∙ ap (λ e. add binary64 e (square64_at xs n)) (sum-floor xs n (λ i h. z i (omega arith)))
     ∙ square-none (get_or xs n nan) (z n (omega arith))
-
-factor-is : div binary32 one32 (sqrt_of (narrow floor64)) ≡ factor
-unfolding div narrow sqrt_of twice_root root_to of_bits
-factor-is = refl
 
 each : (xs : List Float) → AllZero xs → map (times factor) xs ≡ xs
 each [] z = refl

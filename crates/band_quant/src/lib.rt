@@ -12,10 +12,9 @@ const FLOOR: f64 = 1e-15;
 fn energy64(x: &[f32]) -> f64
     ensures { result ≡ energy64 x.now }
 {
-    let n = x.len();
     let mut e = FLOOR;
-    for i in 0..n {
-        let v = float_bits::formats::f32_to_f64(x[i]);
+    for value in x {
+        let v = float_bits::formats::f32_to_f64(*value);
         e += v * v;
     }
     e
