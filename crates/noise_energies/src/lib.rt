@@ -9,6 +9,7 @@ ghost use Rattle.noise_energies.specs.Energies.{energy_drop, drops, lower_energi
 
 use custom_mode::standard::MAX_BANDS;
 
+#[tactic(auto, unfolding(crate::specs::Energies::energy_drop))]
 fn energy_drop(count: u32) -> f32
     ensures { result ≡ energy_drop count }
 {
@@ -16,18 +17,16 @@ fn energy_drop(count: u32) -> f32
 }
 
 // The energy at place i, lower by `by` where it drops.
+#[tactic(auto, unfolding(crate::specs::Energies::drops))]
 fn dropped(energy: f32, i: usize, channels: usize, start: usize, end: usize, by: f32) -> f32
     ensures { result ≡ cond (drops channels start end i) (sub binary32 energy by) energy }
 {
     let band = i % MAX_BANDS;
-    if i / MAX_BANDS < channels {
-        if start <= band {
-            if band < end {
-                return energy - by;
-            }
-        }
+    if i / MAX_BANDS < channels && start <= band && band < end {
+        energy - by
+    } else {
+        energy
     }
-    energy
 }
 
 // The coarse energies of both channels after a noise loss.
@@ -45,13 +44,14 @@ pub fn lower_energies(
     }
     let by = energy_drop(count);
     let mut e = coarse;
-    for i in 0..50 {
-        e[i] = dropped(e[i], i, channels, start, end, by);
+    for (i, energy) in e.iter_mut().enumerate() {
+        *energy = dropped(*energy, i, channels, start, end, by);
     }
     e
 }
 
 // The energies that a noise loss reads, the coarse ones being those after the drop.
+#[tactic(auto, unfolding(crate::specs::Energies::read_energies))]
 pub fn read_energies(lowered: [f32; 50], background: [f32; 50], count: u32) -> [f32; 50]
     ensures { result ≡ read_energies count lowered background }
 {
