@@ -88,5 +88,5 @@ pub fn f64_to_f32(x: f64) -> f32
     if x != x {
         return 0.0 / 0.0;
     }
-    f32::from_bits(narrow_bits(f64::to_bits(x)))
+    f32::from_bits(narrow_bits(x.to_bits()))
 }

@@ -44,10 +44,10 @@ fn scale(q: u64, h: u64) -> Scaled
     let mut m = q * (1 + h % 2);
     let mut k = h / 2;
     while m < 0x4000_0000_0000 {
-        m = m * 4;
-        k = k - 1;
+        m *= 4;
+        k -= 1;
     }
-    Scaled { m: m, k: k }
+    Scaled { m, k }
 }
 
 // The square of the root, in units, of the f32 whose bits are b.
@@ -70,13 +70,12 @@ fn root_bits(b: u64) -> u64
     requires b_bound { b < 0x7f80_0000 }
     ensures { RootBits (significand binary32 (b / 2 ^ 23) (b % 2 ^ 23) * 2 ^ 149) result }
 {
-    let p = radicand(b);
-    let m = p.m;
+    let Scaled { m, k } = radicand(b);
     let s = isqrt(m);
     if s < m - s * s {
-        return p.k * 0x80_0000 + (s + 1);
+        return k * 0x80_0000 + (s + 1);
     }
-    p.k * 0x80_0000 + s
+    k * 0x80_0000 + s
 }
 
 // The f32 nearest to the square root of x.
@@ -86,7 +85,7 @@ pub fn sqrt_f32(x: f32) -> f32
     if x != x {
         return x;
     }
-    let b = f32::to_bits(x);
+    let b = x.to_bits();
     if b == 0 {
         return x;
     }

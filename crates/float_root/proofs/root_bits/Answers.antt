@@ -8,19 +8,19 @@ use Rattle.float_root.proofs.root_bits.Goals as goal
 pub returns-then-s-m : goal.returns-then-s-m
 returns-then-s-m c =
     let b = c.args.b in
-    let p = c.radicand-p in
+    let p = c.radicand-m in
     let s = c.isqrt-s in
     root-up (significand binary32 (b / 2 ^ 23) (b % 2 ^ 23) * 2 ^ 149) p.result.m p.result.k s.result p.ensures s.ensures.0 s.ensures.1 c.if-s-m.true
 
 pub overflow_add-result-2 : goal.overflow_add-result-2
 overflow_add-result-2 c =
-    let p = c.radicand-p in
+    let p = c.radicand-m in
     let s = c.isqrt-s in
     omega (arith, root-few p.result.m s.result s.ensures.0 p.ensures.high, p.ensures.few)
 
 pub returns : goal.returns
 returns c =
     let b = c.args.b in
-    let p = c.radicand-p in
+    let p = c.radicand-m in
     let s = c.isqrt-s in
     root-down (significand binary32 (b / 2 ^ 23) (b % 2 ^ 23) * 2 ^ 149) p.result.m p.result.k s.result p.ensures s.ensures.0 s.ensures.1 c.if-s-m.false
