@@ -1,28 +1,22 @@
 // Ops 401 and 402: the draw and the renormalisation.
-use crate::streams::{Wire, at_most};
+use crate::streams::Wire;
+use band_quant::renormalise_vector;
+use draw::celt_lcg_rand;
 use std::io;
 
-fn answer_draw(wire: &mut Wire) -> io::Result<()> {
-    let seed = wire.read_word()?;
-    wire.write_word(draw::celt_lcg_rand(seed))
-}
-
-fn renormalise_front(x: &mut [f32], width: usize) {
-    let end = at_most(width, x.len());
-    band_quant::renormalise_vector(&mut x[..end], 1.0);
-}
+// The widest band.
+const WIDEST: usize = 176;
 
 fn answer_band(wire: &mut Wire) -> io::Result<()> {
-    let width = wire.read_word()?;
-    let mut x = [0.0f32; 176];
-    wire.read_floats(&mut x)?;
-    renormalise_front(&mut x, width as usize);
-    wire.write_floats(&x)
+    let width = WIDEST.min(wire.read()?);
+    let mut x = wire.read_floats::<WIDEST>()?;
+    renormalise_vector(&mut x[..width], 1.0);
+    wire.write_all(&x)
 }
 
 pub(crate) fn answer(wire: &mut Wire, op: u32) -> io::Result<bool> {
     match op {
-        401 => answer_draw(wire)?,
+        401 => wire.answer(celt_lcg_rand)?,
         402 => answer_band(wire)?,
         _ => return Ok(false),
     }

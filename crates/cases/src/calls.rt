@@ -1,98 +1,55 @@
-// Calls on lent buffers, and their answers as words.
-use crate::streams::{Wire, at_most};
-use float_bits::words::{f32_to_word, wrapping_mul_u32};
+// Calls on lent buffers.
+use float_bits::words::{Word, wrapping_mul_u32};
+use history::WHOLE;
+use put_record::write_record;
 use put_state_words::to_words;
+use record::{BYTES, HISTORY, read_state};
 use state::State;
 use state_words::from_words;
-use std::io;
+use words::values_at;
 
-// Number, kind and sample count.
-fn write_report(wire: &mut Wire, answer: [u32; 3]) -> io::Result<()> {
-    wire.write_word(answer[0])?;
-    wire.write_word(answer[1])?;
-    wire.write_word(answer[2])
+// A decoder's state and the history that its calls are lent, with room for one sample too many.
+#[derive(Drop)]
+pub(crate) struct Decoder {
+    pub state: State,
+    history: [f32; WHOLE + 1],
 }
 
-// One call on the state's words, its report written, and the state after it; lent the first p samples of a PCM buffer,
-// each 1 before it.
-fn call(
-    wire: &mut Wire,
-    s: State,
-    history: &mut [f32],
-    pcm: &mut [f32],
-    p: usize,
-) -> io::Result<State> {
-    let n = at_most(p, pcm.len());
-    buffers::fill(&mut pcm[..n], 1.0);
-    let mut w = to_words(s);
-    let mut answer = [0u32; 3];
-    direct::decode_lost(&mut w, history, &mut pcm[..n], &mut answer);
-    write_report(wire, answer)?;
-    Ok(from_words(&w))
-}
-
-// The same, lent the first n samples of a history.
-pub(crate) fn call_front(
-    wire: &mut Wire,
-    s: State,
-    history: &mut [f32],
-    n: u32,
-    pcm: &mut [f32],
-    p: u32,
-) -> io::Result<State> {
-    let end = at_most(n as usize, history.len());
-    call(wire, s, &mut history[..end], pcm, p as usize)
-}
-
-// The first p samples of a buffer in one word.
-fn digest(x: &[f32], p: usize) -> u32 {
-    let n = at_most(p, x.len());
-    let mut h = 1u32;
-    for i in 0..n {
-        let m = wrapping_mul_u32(h, 1664525);
-        h = std::num::wrapping_add_u32(m, f32_to_word(x[i]));
+impl Decoder {
+    // As a record has it.
+    pub(crate) fn new(b: &[u8; BYTES]) -> Decoder {
+        let mut history = [0.0f32; WHOLE + 1];
+        values_at(b, HISTORY, &mut history);
+        Decoder {
+            state: read_state(b),
+            history,
+        }
     }
-    h
-}
 
-// One call of a run.
-fn turn(
-    wire: &mut Wire,
-    s: State,
-    history: &mut [f32],
-    pcm: &mut [f32],
-    length: u32,
-) -> io::Result<State> {
-    let p = length as usize;
-    let t = call(wire, s, history, pcm, p)?;
-    wire.write_word(digest(pcm, p))?;
-    Ok(t)
-}
-
-// The first n calls with these PCM lengths, each on what the one before left.
-pub(crate) fn run(
-    wire: &mut Wire,
-    s: State,
-    history: &mut [f32],
-    pcm: &mut [f32],
-    lengths: &[u32],
-    n: usize,
-) -> io::Result<State> {
-    let m = at_most(n, lengths.len());
-    let mut t = s;
-    for i in 0..m {
-        t = turn(wire, t, history, pcm, lengths[i])?;
+    // The record of the state and the history.
+    pub(crate) fn record(&self) -> [u8; BYTES] {
+        let mut b = [0u8; BYTES];
+        write_record(&mut b, self.state, &self.history[..WHOLE]).unwrap();
+        b
     }
-    Ok(t)
+
+    // One call, lent the first n samples of the history and the first p of a PCM buffer, each 1 before it: number, kind and sample count.
+    pub(crate) fn call(&mut self, n: usize, pcm: &mut [f32], p: usize) -> [u32; 3] {
+        let last = p.min(pcm.len());
+        let lent = &mut pcm[..last];
+        lent.fill(1.0);
+        let mut w = to_words(self.state);
+        let mut answer = [0u32; 3];
+        let end = n.min(WHOLE + 1);
+        direct::decode_lost(&mut w, &mut self.history[..end], lent, &mut answer);
+        self.state = from_words(&w);
+        answer
+    }
 }
 
-// Four words 0 for each call from the n-th to the m-th.
-pub(crate) fn write_unused(wire: &mut Wire, n: usize, m: usize) -> io::Result<()> {
-    for _ in n..m {
-        wire.write_word(0)?;
-        wire.write_word(0)?;
-        wire.write_word(0)?;
-        wire.write_word(0)?;
-    }
-    Ok(())
+// The first p samples in one word.
+pub(crate) fn digest(pcm: &[f32], p: usize) -> u32 {
+    pcm[..p.min(pcm.len())].iter().fold(1u32, |h, x| {
+        wrapping_mul_u32(h, 1_664_525).wrapping_add(x.to_word())
+    })
 }

@@ -1,68 +1,27 @@
 // Op 701: the de-emphasis of one frame.
-use crate::streams::{Wire, at_most};
-use deemphasis::Deemphasised;
+use crate::streams::Wire;
+use cosine_circle::FRAME_MOST;
 use deemphasis_mono::deemphasis_mono;
 use deemphasis_stereo::deemphasis_stereo;
 use sizes::frame_size;
 use std::io;
 
-// The first n samples of v.
-fn mono(
-    v: &[f32],
-    n: usize,
-    memories: [f32; 2],
-    downsample: usize,
-    pcm: &mut [f32],
-) -> Deemphasised {
-    let end = at_most(n, v.len());
-    deemphasis_mono(&v[..end], memories, downsample, pcm)
-}
-
-// The first n samples of v and of w.
-fn stereo(
-    v: &[f32],
-    w: &[f32],
-    n: usize,
-    memories: [f32; 2],
-    downsample: usize,
-    pcm: &mut [f32],
-) -> Deemphasised {
-    let first = at_most(n, v.len());
-    let second = at_most(n, w.len());
-    deemphasis_stereo(&v[..first], &w[..second], memories, downsample, pcm)
-}
-
-// A frame of one channel or of two.
-fn sound(
-    channels: u32,
-    v: &[f32],
-    w: &[f32],
-    n: usize,
-    memories: [f32; 2],
-    downsample: usize,
-    pcm: &mut [f32],
-) -> Deemphasised {
-    if channels == 2 {
-        return stereo(v, w, n, memories, downsample, pcm);
-    }
-    mono(v, n, memories, downsample, pcm)
-}
-
-// Three words ahead of the floats: lm, channels and downsample.
+// Three words ahead of the floats: lm, channels and downsample. A refused frame keeps its memories.
 fn answer_frame(wire: &mut Wire) -> io::Result<()> {
-    let n = frame_size(wire.read_word()?);
-    let channels = wire.read_word()?;
-    let downsample = wire.read_word()? as usize;
-    let memories = [wire.read_float()?, wire.read_float()?];
-    let mut v = [0.0f32; 960];
-    wire.read_floats(&mut v)?;
-    let mut w = [0.0f32; 960];
-    wire.read_floats(&mut w)?;
-    let mut pcm = [0.0f32; 1920];
-    let r = sound(channels, &v, &w, n, memories, downsample, &mut pcm);
-    wire.write_floats(&pcm)?;
-    let after = r.memories;
-    wire.write_floats(&after)
+    let n = FRAME_MOST.min(frame_size(wire.read()?));
+    let channels: u32 = wire.read()?;
+    let downsample = wire.read()?;
+    let memories = wire.read_floats()?;
+    let first = wire.read_floats::<FRAME_MOST>()?;
+    let second = wire.read_floats::<FRAME_MOST>()?;
+    let mut pcm = [0.0f32; 2 * FRAME_MOST];
+    let after = if channels == 2 {
+        deemphasis_stereo(&first[..n], &second[..n], memories, downsample, &mut pcm)
+    } else {
+        deemphasis_mono(&first[..n], memories, downsample, &mut pcm)
+    };
+    wire.write_all(&pcm)?;
+    wire.write_all(&after.unwrap_or(memories))
 }
 
 pub(crate) fn answer(wire: &mut Wire, op: u32) -> io::Result<bool> {

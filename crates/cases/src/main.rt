@@ -22,22 +22,20 @@ use streams::Wire;
 
 // One case; false where there is no more to answer.
 fn answer(wire: &mut Wire) -> io::Result<bool> {
-    let op = wire.next_word()?;
-    if !op.whole {
+    let Some(op) = wire.next_word()? else {
         return Ok(false);
-    }
-    let number = op.value;
-    match number / 100 {
-        1 => floats::answer(wire, number),
-        2 => filters::answer(wire, number),
-        3 => search::answer(wire, number),
-        4 => bands::answer(wire, number),
-        5 => modes::answer(wire, number),
-        6 => transform::answer(wire, number),
-        7 => frames::answer(wire, number),
-        8 => pitch::answer(wire, number),
-        9 => noise::answer(wire, number),
-        10 => losses::answer(wire, number),
+    };
+    match op / 100 {
+        1 => floats::answer(wire, op),
+        2 => filters::answer(wire, op),
+        3 => search::answer(wire, op),
+        4 => bands::answer(wire, op),
+        5 => modes::answer(wire, op),
+        6 => transform::answer(wire, op),
+        7 => frames::answer(wire, op),
+        8 => pitch::answer(wire, op),
+        9 => noise::answer(wire, op),
+        10 => losses::answer(wire, op),
         _ => Ok(false),
     }
 }

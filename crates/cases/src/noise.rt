@@ -1,89 +1,63 @@
-// Ops 901 to 903: steps of the noise path.
-use crate::streams::{Wire, at_most};
-use noise_block::{Drawn, noise_block};
+// Ops 901 to 903: steps of the noise path. A step that is refused leaves the seed as it is.
+use crate::streams::Wire;
+use cosine_circle::FRAME_MOST;
+use custom_mode::standard::MAX_BANDS;
+use history::OVERLAP;
+use noise_block::{BLOCK_MOST, noise_block};
 use noise_energies::lower_energies;
 use noise_loss::noise_loss;
+use noise_spectrum::Span;
 use settings::Settings;
+use sizes::frame_size;
 use std::io;
 
-// Four words ahead of a seed and floats: lm, start, end and downsample.
-fn read_mono(wire: &mut Wire) -> io::Result<Settings> {
-    let lm = wire.read_word()?;
-    let start = wire.read_word()?;
-    let end = wire.read_word()?;
-    let downsample = wire.read_word()?;
-    Ok(Settings {
-        lm,
-        channels: 1,
-        start,
-        end,
-        downsample,
-    })
-}
-
-// The samples of a block.
-fn block_size(lm: u32) -> usize {
-    match lm {
-        0 => 240,
-        1 => 360,
-        2 => 600,
-        _ => 1080,
-    }
-}
-
-// The block's samples in the front of a buffer.
-fn draw(k: Settings, seed: u32, block: &mut [f32], e: &[f32]) -> Drawn {
-    let end = at_most(block_size(k.lm), block.len());
-    noise_block(
-        &mut block[..end],
-        k.lm as usize,
-        k.start as usize,
-        k.end as usize,
-        k.downsample as usize,
-        seed,
-        e,
-    )
-}
-
 fn answer_block(wire: &mut Wire) -> io::Result<()> {
-    let k = read_mono(wire)?;
-    let seed = wire.read_word()?;
-    let mut e = [0.0f32; 25];
-    wire.read_floats(&mut e)?;
-    let mut block = [0.0f32; 1080];
-    let drawn = draw(k, seed, &mut block, &e);
-    wire.write_floats(&block)?;
-    wire.write_word(drawn.seed)
+    let lm: u32 = wire.read()?;
+    let span = Span {
+        start: wire.read()?,
+        end: wire.read()?,
+        downsample: wire.read()?,
+    };
+    let seed = wire.read()?;
+    let energies = wire.read_floats::<MAX_BANDS>()?;
+    let mut block = [0.0f32; BLOCK_MOST];
+    let n = FRAME_MOST.min(frame_size(lm));
+    let after = noise_block(
+        &mut block[..n + OVERLAP],
+        lm as usize,
+        span,
+        seed,
+        &energies,
+    );
+    wire.write_all(&block)?;
+    wire.write(after.unwrap_or(seed))
 }
 
 fn answer_channel(wire: &mut Wire) -> io::Result<()> {
-    let k = read_mono(wire)?;
-    let seed = wire.read_word()?;
-    let mut e = [0.0f32; 50];
-    wire.read_part(&mut e, 0, 25)?;
-    let mut h = [0.0f32; history::WHOLE];
-    wire.read_part(&mut h, 0, history::CHANNEL)?;
-    let drawn = noise_loss(k, &mut h, seed, e);
-    wire.write_first(&h, history::CHANNEL)?;
-    wire.write_word(drawn.seed)
+    let k = Settings {
+        lm: wire.read()?,
+        channels: 1,
+        start: wire.read()?,
+        end: wire.read()?,
+        downsample: wire.read()?,
+    };
+    let seed = wire.read()?;
+    let mut energies = [0.0f32; 2 * MAX_BANDS];
+    wire.read_all(&mut energies[..MAX_BANDS])?;
+    let mut h = wire.read_channel()?;
+    let after = noise_loss(k, &mut h, seed, energies);
+    wire.write_channel(&h)?;
+    wire.write(after.unwrap_or(seed))
 }
 
 // Four words ahead of the energies: channels, start, end and loss count.
 fn answer_energies(wire: &mut Wire) -> io::Result<()> {
-    let channels = wire.read_word()?;
-    let start = wire.read_word()?;
-    let end = wire.read_word()?;
-    let count = wire.read_word()?;
-    let mut coarse = [0.0f32; 50];
-    wire.read_floats(&mut coarse)?;
-    let after = lower_energies(
-        coarse,
-        channels as usize,
-        start as usize,
-        end as usize,
-        count,
-    );
-    wire.write_floats(&after)
+    let channels = wire.read()?;
+    let start = wire.read()?;
+    let end = wire.read()?;
+    let count = wire.read()?;
+    let coarse = wire.read_floats()?;
+    wire.write_all(&lower_energies(coarse, channels, start, end, count))
 }
 
 pub(crate) fn answer(wire: &mut Wire, op: u32) -> io::Result<bool> {

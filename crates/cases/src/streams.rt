@@ -1,16 +1,57 @@
 // Words and floats on standard input and output. What is read past the end of the input is 0.
-ghost use Rattle.std.specs.Prelude.{◌≡◌, ◌≤◌, to_bits};
-ghost use Rattle.std.specs.Float.{binary64};
-
-use float_bits::words::{f32_from_word, f32_to_word};
+use float_bits::words::Word;
+use history::{CHANNEL, WHOLE};
 use std::alloc::Global;
 use std::io::{BufReader, BufWriter, Bytes, Read, Result, Stdin, Stdout, Write};
+use std::num::{f64_from_bits_with_nan, f64_to_bits_with_nan};
 
-// `whole` is false where the input ended first.
-#[derive(Clone, Copy)]
-pub(crate) struct Word {
-    pub value: u32,
-    pub whole: bool,
+// What a case or its answer holds.
+pub(crate) trait Value: Copy {
+    fn read(wire: &mut Wire) -> Result<Self>;
+
+    fn write(self, wire: &mut Wire) -> Result<()>;
+}
+
+impl Value for u32 {
+    fn read(wire: &mut Wire) -> Result<u32> {
+        Ok(u32::from_le_bytes(wire.bytes()?))
+    }
+
+    fn write(self, wire: &mut Wire) -> Result<()> {
+        wire.write_bytes(&self.to_le_bytes())
+    }
+}
+
+impl Value for f32 {
+    fn read(wire: &mut Wire) -> Result<f32> {
+        Ok(f32::from_word(u32::read(wire)?))
+    }
+
+    fn write(self, wire: &mut Wire) -> Result<()> {
+        self.to_word().write(wire)
+    }
+}
+
+// The low word first; a NaN's words are 00000000 7FF80000.
+impl Value for f64 {
+    fn read(wire: &mut Wire) -> Result<f64> {
+        Ok(f64_from_bits_with_nan(u64::from_le_bytes(wire.bytes()?)))
+    }
+
+    fn write(self, wire: &mut Wire) -> Result<()> {
+        wire.write_bytes(&f64_to_bits_with_nan(self).to_le_bytes())
+    }
+}
+
+// One word: every number that is written fits it.
+impl Value for usize {
+    fn read(wire: &mut Wire) -> Result<usize> {
+        Ok(u32::read(wire)? as usize)
+    }
+
+    fn write(self, wire: &mut Wire) -> Result<()> {
+        ((self % 0x1_0000_0000) as u32).write(wire)
+    }
 }
 
 // Both streams. A read or a write that a signal interrupts is made again, and loses nothing.
@@ -30,93 +71,66 @@ impl Wire {
         })
     }
 
-    // Fills buf as far as the input goes; how many bytes came.
-    fn fill(&mut self, buf: &mut [u8]) -> Result<usize> {
-        for (i, place) in buf.iter_mut().enumerate() {
+    // Fills b as far as the input goes; how many bytes came.
+    pub(crate) fn fill(&mut self, b: &mut [u8]) -> Result<usize> {
+        for (i, place) in b.iter_mut().enumerate() {
             match self.input.next() {
                 Some(byte) => *place = byte?,
                 None => return Ok(i),
             }
         }
-        Ok(buf.len())
+        Ok(b.len())
     }
 
-    pub(crate) fn next_word(&mut self) -> Result<Word> {
+    fn bytes<const N: usize>(&mut self) -> Result<[u8; N]> {
+        let mut b = [0u8; N];
+        self.fill(&mut b)?;
+        Ok(b)
+    }
+
+    // None where the input ends before a whole word.
+    pub(crate) fn next_word(&mut self) -> Result<Option<u32>> {
         let mut b = [0u8; 4];
         let n = self.fill(&mut b)?;
-        Ok(Word {
-            value: words::word_at(&b, 0),
-            whole: n == 4,
-        })
+        Ok((n == b.len()).then_some(u32::from_le_bytes(b)))
     }
 
-    pub(crate) fn read_word(&mut self) -> Result<u32> {
-        let w = self.next_word()?;
-        Ok(w.value)
+    pub(crate) fn read<V: Value>(&mut self) -> Result<V> {
+        V::read(self)
     }
 
-    pub(crate) fn write_word(&mut self, w: u32) -> Result<()> {
-        self.output.write_all(&w.to_le_bytes())
-    }
-
-    // Every number that is written here fits a word.
-    pub(crate) fn write_number(&mut self, n: usize) -> Result<()> {
-        self.write_word((n % 0x1_0000_0000) as u32)
-    }
-
-    pub(crate) fn write_float(&mut self, x: f32) -> Result<()> {
-        self.write_word(f32_to_word(x))
-    }
-
-    // The low word first.
-    pub(crate) fn write_double(&mut self, x: f64) -> Result<()> {
-        let bits = double_bits(x);
-        self.write_word((bits % 0x1_0000_0000) as u32)?;
-        self.write_word((bits / 0x1_0000_0000) as u32)
-    }
-
-    pub(crate) fn read_float(&mut self) -> Result<f32> {
-        Ok(f32_from_word(self.read_word()?))
-    }
-
-    pub(crate) fn read_words(&mut self, x: &mut [u32]) -> Result<()> {
+    pub(crate) fn read_all<V: Value>(&mut self, x: &mut [V]) -> Result<()> {
         for place in x.iter_mut() {
-            *place = self.read_word()?;
+            *place = V::read(self)?;
         }
         Ok(())
     }
 
-    pub(crate) fn read_floats(&mut self, x: &mut [f32]) -> Result<()> {
-        for place in x.iter_mut() {
-            *place = self.read_float()?;
+    pub(crate) fn read_floats<const N: usize>(&mut self) -> Result<[f32; N]> {
+        let mut x = [0.0f32; N];
+        self.read_all(&mut x)?;
+        Ok(x)
+    }
+
+    // A history of which the first channel comes; the rest is 0.
+    pub(crate) fn read_channel(&mut self) -> Result<[f32; WHOLE]> {
+        let mut h = [0.0f32; WHOLE];
+        self.read_all(&mut h[..CHANNEL])?;
+        Ok(h)
+    }
+
+    pub(crate) fn write_channel(&mut self, h: &[f32; WHOLE]) -> Result<()> {
+        self.write_all(&h[..CHANNEL])
+    }
+
+    pub(crate) fn write<V: Value>(&mut self, v: V) -> Result<()> {
+        v.write(self)
+    }
+
+    pub(crate) fn write_all<V: Value>(&mut self, x: &[V]) -> Result<()> {
+        for v in x {
+            v.write(self)?;
         }
-        Ok(())
-    }
-
-    pub(crate) fn write_floats(&mut self, x: &[f32]) -> Result<()> {
-        for sample in x {
-            self.write_float(*sample)?;
-        }
-        Ok(())
-    }
-
-    // The values of x from one place to another.
-    pub(crate) fn read_part(&mut self, x: &mut [f32], from: usize, to: usize) -> Result<()> {
-        let end = at_most(to, x.len());
-        let begin = at_most(from, end);
-        self.read_floats(&mut x[begin..end])
-    }
-
-    // The first n of x.
-    pub(crate) fn write_first(&mut self, x: &[f32], n: usize) -> Result<()> {
-        let end = at_most(n, x.len());
-        self.write_floats(&x[..end])
-    }
-
-    // The first n bytes of b.
-    pub(crate) fn read_bytes(&mut self, b: &mut [u8], n: usize) -> Result<()> {
-        let end = at_most(n, b.len());
-        self.fill(&mut b[..end])?;
         Ok(())
     }
 
@@ -124,22 +138,28 @@ impl Wire {
         self.output.write_all(b)
     }
 
+    // Answers a value by what f makes of it.
+    pub(crate) fn answer<A: Value, B: Value, F: Fn(A) -> B>(&mut self, f: F) -> Result<()>
+        requires { F.IsAlwaysCallable f }
+    {
+        let x = self.read()?;
+        self.write(f(x))
+    }
+
+    // Answers two values by what f makes of them.
+    pub(crate) fn answer_two<A: Value, B: Value, C: Value, F: Fn(A, B) -> C>(
+        &mut self,
+        f: F,
+    ) -> Result<()>
+        requires { F.IsAlwaysCallable f }
+    {
+        let x = self.read()?;
+        let y = self.read()?;
+        self.write(f(x, y))
+    }
+
     // What has been written so far goes out.
     pub(crate) fn flush(&mut self) -> Result<()> {
         self.output.flush()
     }
-}
-
-// The bits of an f64; a NaN's are 7FF80000 00000000.
-fn double_bits(x: f64) -> u64
-    ensures { result ≡ to_bits binary64 x }
-{
-    std::num::f64_to_bits_with_nan(x)
-}
-
-// Places in a buffer that a case names are held to the buffer's length; a case within its ranges has none past it.
-pub(crate) fn at_most(n: usize, most: usize) -> usize
-    ensures { result ≤ most }
-{
-    if n < most { n } else { most }
 }

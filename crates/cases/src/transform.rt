@@ -1,83 +1,60 @@
 // Ops 601 to 624: the window, the cosine table, the cosine sum and the mirrored one.
-use crate::streams::{Wire, at_most};
+ghost use Rattle.std.specs.Prelude.{◌≡◌, true, ◌*◌, ◌≤◌};
+ghost use Rattle.cosine_circle.specs.Circle.{is_frame_size};
+
+use crate::streams::{Value, Wire};
 use celt_window::{low_overlap_window, window};
-use mdct::imdct;
+use cosine_table::cosines;
+use mdct::imdct::imdct_naive_f32;
 use mdct_mirrored::imdct_mirrored_f32;
 use sizes::frame_size;
 use std::io;
 
-fn answer_window(wire: &mut Wire) -> io::Result<bool> {
-    let at = wire.read_word()? as usize;
-    if 119 < at {
-        return Ok(false);
+// An entry of a table; past its end there is no answer.
+fn answer_entry<V: Value>(wire: &mut Wire, table: &[V]) -> io::Result<bool> {
+    let at: usize = wire.read()?;
+    match table.get(at) {
+        Some(v) => wire.write(*v)?,
+        None => return Ok(false),
     }
-    let w = window();
-    wire.write_float(w[at])?;
     Ok(true)
 }
 
-fn answer_long_window(wire: &mut Wire) -> io::Result<()> {
-    let lm = wire.read_word()?;
-    let j = wire.read_word()?;
-    let w = window();
-    wire.write_float(low_overlap_window(&w, frame_size(lm), j as usize))
+// The bins of a frame to twice as many samples.
+fn answer_sum<const BINS: usize, const SAMPLES: usize>(wire: &mut Wire) -> io::Result<()>
+    requires { (BINS ≤ 960) × (is_frame_size BINS ≡ true) × (SAMPLES ≡ 2 * BINS) }
+{
+    let spectrum = wire.read_floats::<BINS>()?;
+    let mut out = [0.0f32; SAMPLES];
+    imdct_naive_f32(&spectrum, &mut out).unwrap();
+    wire.write_all(&out)
 }
 
-fn answer_cosine(wire: &mut Wire) -> io::Result<bool> {
-    let at = wire.read_word()? as usize;
-    if 1920 < at {
-        return Ok(false);
-    }
-    let c = cosine_table::cosines();
-    wire.write_double(c[at])?;
-    Ok(true)
+// The same by half of the sums, with the number of products.
+fn answer_mirrored<const BINS: usize, const SAMPLES: usize>(wire: &mut Wire) -> io::Result<()>
+    requires { (BINS ≤ 960) × (is_frame_size BINS ≡ true) × (SAMPLES ≡ 2 * BINS) }
+{
+    let spectrum = wire.read_floats::<BINS>()?;
+    let mut out = [0.0f32; SAMPLES];
+    let products = imdct_mirrored_f32(&spectrum, &mut out).unwrap();
+    wire.write_all(&out)?;
+    wire.write(products)
 }
 
-// The first n bins summed to the first m samples.
-fn sum(spectrum: &[f32], n: usize, out: &mut [f32], m: usize) {
-    let bins = at_most(n, spectrum.len());
-    let samples = at_most(m, out.len());
-    imdct::imdct_naive_f32(&spectrum[..bins], &mut out[..samples]);
-}
-
-fn answer_sum(wire: &mut Wire, n: usize, m: usize) -> io::Result<()> {
-    let mut spectrum = [0.0f32; 960];
-    wire.read_part(&mut spectrum, 0, n)?;
-    let mut out = [0.0f32; 1920];
-    sum(&spectrum, n, &mut out, m);
-    wire.write_first(&out, m)
-}
-
-// The same by half of the sums; gives the number of products.
-fn sum_mirrored(spectrum: &[f32], n: usize, out: &mut [f32], m: usize) -> usize {
-    let bins = at_most(n, spectrum.len());
-    let samples = at_most(m, out.len());
-    let done = imdct_mirrored_f32(&spectrum[..bins], &mut out[..samples]);
-    done.products
-}
-
-fn answer_mirrored(wire: &mut Wire, n: usize, m: usize) -> io::Result<()> {
-    let mut spectrum = [0.0f32; 960];
-    wire.read_part(&mut spectrum, 0, n)?;
-    let mut out = [0.0f32; 1920];
-    let products = sum_mirrored(&spectrum, n, &mut out, m);
-    wire.write_first(&out, m)?;
-    wire.write_number(products)
-}
-
+#[tactic(auto, unfolding(cosine_circle::specs::Circle::is_frame_size))]
 pub(crate) fn answer(wire: &mut Wire, op: u32) -> io::Result<bool> {
     match op {
-        601 => return answer_window(wire),
-        602 => answer_long_window(wire)?,
-        603 => return answer_cosine(wire),
-        611 => answer_sum(wire, 120, 240)?,
-        612 => answer_sum(wire, 240, 480)?,
-        613 => answer_sum(wire, 480, 960)?,
-        614 => answer_sum(wire, 960, 1920)?,
-        621 => answer_mirrored(wire, 120, 240)?,
-        622 => answer_mirrored(wire, 240, 480)?,
-        623 => answer_mirrored(wire, 480, 960)?,
-        624 => answer_mirrored(wire, 960, 1920)?,
+        601 => return answer_entry(wire, &window()),
+        602 => wire.answer_two(|lm, j| low_overlap_window(&window(), frame_size(lm), j))?,
+        603 => return answer_entry(wire, &cosines()),
+        611 => answer_sum::<120, 240>(wire)?,
+        612 => answer_sum::<240, 480>(wire)?,
+        613 => answer_sum::<480, 960>(wire)?,
+        614 => answer_sum::<960, 1920>(wire)?,
+        621 => answer_mirrored::<120, 240>(wire)?,
+        622 => answer_mirrored::<240, 480>(wire)?,
+        623 => answer_mirrored::<480, 960>(wire)?,
+        624 => answer_mirrored::<960, 1920>(wire)?,
         _ => return Ok(false),
     }
     Ok(true)
