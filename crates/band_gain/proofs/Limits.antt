@@ -1,5 +1,7 @@
 -- What the code asks of w and learns, w being 256 * x and q the steps of x.
-use Rattle.std.proofs.Common.{◌≡◌, ℕ, ◌+◌, ◌-◌, ◌*◌, ◌/◌, ◌%◌, ◌^◌, ◌<◌, ◌≤◌, Bool, true, false, cond, ◌&&◌, ◌||◌, T, eqb, ltb, ℤ, pos, sym, refl, ap, ◌∙◌, mul-le-mul_right, mul_comm, div-lt_iff_lt-mul, mul-lt-mul_of_pos_right, div-add-mod', zero-mul, mul-one, mul_right_comm, arith, lt→ltb, ltb-false, ltb-true, le-ltb, lt-ltb, eq-eqb, ne_eqb, eqb-true}
+use Rattle.std.proofs.Common.{◌≡◌, ℕ, ◌+◌, ◌-◌, ◌*◌, ◌/◌, ◌%◌, ◌^◌, ◌<◌, ◌≤◌, Bool, true, false, cond, ◌&&◌, ◌||◌, T, eqb, ltb, ℤ, pos, sym, refl, ap, ◌∙◌}
+use Rattle.std.proofs.Common.{mul-le-mul_right, mul_comm, div-lt_iff_lt-mul, mul-lt-mul_of_pos_right, div-add-mod', zero-mul, mul-one, mul_right_comm, arith}
+use Rattle.std.proofs.Common.{lt→ltb, ltb-false, ltb-true, le-ltb, lt-ltb, eq-eqb, ne_eqb, eqb-true}
 use native.Mathlib.Nat.{div-le_of_le-mul, min-eq_left, zero-div, zero-mod}
 use lib.Ieee.{Float, nan, inf, fin, binary64, up, down, of_int, of_bits, neg, lt, le, eq, to_unsigned}
 use lib.Ieee.Exact.{HasValue}

@@ -1,5 +1,6 @@
 -- Whole numbers and powers of two as f64.
-use Rattle.std.proofs.Common.{◌≡◌, ℕ, zero, suc, ◌+◌, ◌-◌, ◌*◌, ◌/◌, ◌%◌, ◌^◌, ◌<◌, ◌≤◌, Bool, true, false, cond, not, T, ltb, leb, pos, negsuc, sym, refl, ap, ◌∙◌, arith, ne_eqb, le-leb, leb-false, leb-true}
+use Rattle.std.proofs.Common.{◌≡◌, ℕ, zero, suc, ◌+◌, ◌-◌, ◌*◌, ◌/◌, ◌%◌, ◌^◌, ◌<◌, ◌≤◌, Bool, true, false, cond, not, T, ltb, leb, pos, negsuc, sym, refl, ap, ◌∙◌}
+use Rattle.std.proofs.Common.{arith, ne_eqb, le-leb, leb-false, leb-true}
 use borrow.Author.Tests.{lt-leb}
 use lib.Ieee.{fin, inf, Format, binary64, prec, low, emax, minus, neg, of_int, of_bits, of_fields, odd, units, round, nan_bits}
 

@@ -189,7 +189,8 @@ ties-to-even-is s v =
     ∙ go (overflows v) (at_least v) (less_than v)
     ∙ sym (round-at s v k v u (pow_pos (925 + k)) (dropped v) (regroup-two v 149 1074 k (925 + k) (sym (add_assoc 149 925 k))))
   where
-    go : (b : Bool) → (T b → Threshold ≤ v) → (T (not b) → v < Threshold) → cond b (inf s) (odd 25 s (closest v (Unit v)) (925 + Dropped v) 1074) ≡ units binary32 s (closest v (Unit v)) (Dropped v)
+    go : (b : Bool) → (T b → Threshold ≤ v) → (T (not b) → v < Threshold)
+        → cond b (inf s) (odd 25 s (closest v (Unit v)) (925 + Dropped v) 1074) ≡ units binary32 s (closest v (Unit v)) (Dropped v)
     go true p q = sym (units-inf s (closest v (Unit v)) (Dropped v) (past v (p tt)))
     go false p q = odd_shift s (closest v (Unit v)) (Dropped v) ∙ sym (units-fin s (closest v (Unit v)) (Dropped v) (short v (q tt)))
 

@@ -63,7 +63,8 @@ by-fields b h =
     clause-val (of_bits binary64 b) s (significand binary64 e t) (of_bits-fits binary64 b)
     (subst (λ (v : Float). HasValue v s (significand binary64 e t) (2 ^ 1074)) (sym (of_bits_is binary64 b)) (fields-val binary64 s e t h))
 
-pub bits-fin : (b r : ℕ) → b < 2 ^ 64 → b % 2 ^ 63 / 2 ^ 52 < 2047 → Magnitude (b % 2 ^ 63 / 2 ^ 52) (b % 2 ^ 52) r → b / 2 ^ 63 * 2 ^ 31 + r ≡ to_bits binary32 (clause (of_bits binary64 b))
+pub bits-fin : (b r : ℕ) → b < 2 ^ 64 → b % 2 ^ 63 / 2 ^ 52 < 2047 → Magnitude (b % 2 ^ 63 / 2 ^ 52) (b % 2 ^ 52) r
+    → b / 2 ^ 63 * 2 ^ 31 + r ≡ to_bits binary32 (clause (of_bits binary64 b))
 bits-fin b r w h m =
     sym (ap (to_bits binary32) (by-fields b h)
     ∙ m.bits (leb (2 ^ 63) b)
@@ -73,9 +74,11 @@ infinite : (b : ℕ) → b < 2 ^ 64 → clause (of_bits binary64 b) ≡ inf (leb
 infinite b w h = sym (ap (to_bits binary32) h ∙ to_bits_inf (leb (2 ^ 63) b) ∙ ap (λ (z : ℕ). z + 0x7f80_0000) (sign_bit b w))
 
 -- at the threshold or past it, an infinity too
-pub bits-inf : (b : ℕ) → b < 2 ^ 64 → 0x47ef_ffff_f000_0000 ≤ b % 2 ^ 63 → T (not (is_nan (of_bits binary64 b))) → b / 2 ^ 63 * 2 ^ 31 + 0x7f80_0000 ≡ to_bits binary32 (clause (of_bits binary64 b))
+pub bits-inf : (b : ℕ) → b < 2 ^ 64 → 0x47ef_ffff_f000_0000 ≤ b % 2 ^ 63 → T (not (is_nan (of_bits binary64 b)))
+    → b / 2 ^ 63 * 2 ^ 31 + 0x7f80_0000 ≡ to_bits binary32 (clause (of_bits binary64 b))
 bits-inf b w h n = elim (here_or_on (b % 2 ^ 63 / 2 ^ 52) 2047) [
-  | inl a ↦ infinite b w (by-fields b a ∙ ties-to-even-inf s (significand binary64 e t) (past_threshold e t (mod-lt b (pow_pos 52)) (subst (λ (z : ℕ). 0x47ef_ffff_f000_0000 ≤ z) (fields b) h)))
+  | inl a ↦ infinite b w (by-fields b a ∙ ties-to-even-inf s (significand binary64 e t)
+      (past_threshold e t (mod-lt b (pow_pos 52)) (subst (λ (z : ℕ). 0x47ef_ffff_f000_0000 ≤ z) (fields b) h)))
   | inr a ↦ infinite b w (ap clause (of_bits_is binary64 b ∙ fields-inf binary64 s e t (ones b a) (subst (λ (v : Float). T (not (is_nan v))) (of_bits_is binary64 b) n)) ∙ clause-inf s)
 ]
   where

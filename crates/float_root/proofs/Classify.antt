@@ -110,7 +110,8 @@ bits-val : (b : ℕ) → b < 0x7f80_0000 → HasValue (of_bits binary32 b) false
 bits-val b h =
     subst (λ (v : Float). HasValue v false (significand binary32 (b / 2 ^ 23) (b % 2 ^ 23)) (2 ^ 149))
     (sym (of_bits_is binary32 b
-    ∙ ap (λ (s : Bool). of_fields binary32 s (b % 2 ^ 31 / 2 ^ 23) (b % 2 ^ 23)) (is_false (leb (2 ^ 31) b) (not_T (leb (2 ^ 31) b) (λ (u : T (leb (2 ^ 31) b)). clear b h (leb→le (2 ^ 31) b u))))
+    ∙ ap (λ (s : Bool). of_fields binary32 s (b % 2 ^ 31 / 2 ^ 23) (b % 2 ^ 23)) (is_false (leb (2 ^ 31) b)
+    (not_T (leb (2 ^ 31) b) (λ (u : T (leb (2 ^ 31) b)). clear b h (leb→le (2 ^ 31) b u))))
     ∙ ap (λ (e : ℕ). of_fields binary32 false e (b % 2 ^ 23)) (field_is b h)))
     (fields-val binary32 false (b / 2 ^ 23) (b % 2 ^ 23) (field_lt b h))
 

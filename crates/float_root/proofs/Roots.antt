@@ -95,7 +95,8 @@ rad_sub e t m k z h = subst (λ (x : ℕ). ScaledTo (significand binary32 x t * 
 pub rad_norm : (e t m k : ℕ) → (e ≡ 0 → ⊥) → ScaledTo ((2 ^ 23 + t) * 2 ^ (e + 148)) m k → ScaledTo (significand binary32 e t * 2 ^ 149) m k
 rad_norm zero t m k n h = absurd (n refl)
 rad_norm (suc x) t m k n h =
-    subst (λ (v : ℕ). ScaledTo v m k) (ap (λ (z : ℕ). (2 ^ 23 + t) * 2 ^ z) (move x) ∙ ap (λ (z : ℕ). (2 ^ 23 + t) * z) (pow-add 2 x 149) ∙ sym (mul_assoc (2 ^ 23 + t) (2 ^ x) (2 ^ 149))) h
+    subst (λ (v : ℕ). ScaledTo v m k) (ap (λ (z : ℕ). (2 ^ 23 + t) * 2 ^ z) (move x) ∙ ap (λ (z : ℕ). (2 ^ 23 + t) * z) (pow-add 2 x 149)
+    ∙ sym (mul_assoc (2 ^ 23 + t) (2 ^ x) (2 ^ 149))) h
   where
     move : (x : ℕ) → suc x + 148 ≡ x + 149
     move x = omega arith

@@ -119,7 +119,8 @@ unfolding cleared
 below-bound c bins j h l =
     get_or-append (take c bins) (replicate (length bins - c) zero32) nan j (omega (arith, length-take-le c bins h)) ∙ get_or-take c bins j nan l
 
-pub spectrum-at : (m start end downsample seed : ℕ) (energies : List Float) (i j : ℕ) → start ≤ i → i < end → end ≤ bands → lo m i ≤ j → j < lo m (i + 1) → j < bound m end downsample
+pub spectrum-at : (m start end downsample seed : ℕ) (energies : List Float) (i j : ℕ) → start ≤ i → i < end → end ≤ bands
+    → lo m i ≤ j → j < lo m (i + 1) → j < bound m end downsample
     → get_or (spectrum m start end downsample seed energies) j nan ≡ times (gain_of_band energies i) (get_or (noise_shape m start seed (replicate (short_block * m) zero32)).bins j nan)
 unfolding spectrum spectrum_over fold_range
 spectrum-at m start end downsample seed energies i j h k l lo-j hi-j b =

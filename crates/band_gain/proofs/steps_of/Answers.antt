@@ -11,7 +11,9 @@ fine-at : (x w : Float) → w ≡ x → GainRange x → T (fits binary32 x) → 
 fine-at x w e g t = subst (λ z. Fine (product z) (steps x)) (sym e) (fine x t g)
 
 pub truncating_f64_to_u64-requires : goal.truncating_f64_to_u64-requires
-truncating_f64_to_u64-requires c = let r = asked-above _ _ (fine-at c.args.x _ c.f32_to_f64-w.ensures c.requires.gain_range c.requires.t) c.if-w.true in record { lower_bound = r.0; upper_bound = r.1 }
+truncating_f64_to_u64-requires c =
+    let r = asked-above _ _ (fine-at c.args.x _ c.f32_to_f64-w.ensures c.requires.gain_range c.requires.t) c.if-w.true in
+    record { lower_bound = r.0; upper_bound = r.1 }
 
 pub overflow_add-result : goal.overflow_add-result
 overflow_add-result c =
@@ -24,7 +26,9 @@ pub returns-then-w : goal.returns-then-w
 returns-then-w c = found-above _ _ _ (fine-at c.args.x _ c.f32_to_f64-w.ensures c.requires.gain_range c.requires.t) c.if-w.true c.truncating_f64_to_u64.ensures
 
 pub truncating_f64_to_u64-t-requires : goal.truncating_f64_to_u64-t-requires
-truncating_f64_to_u64-t-requires c = let r = asked-below _ _ (fine-at c.args.x _ c.f32_to_f64-w.ensures c.requires.gain_range c.requires.t) c.if-w.false in record { lower_bound = r.0; upper_bound = r.1 }
+truncating_f64_to_u64-t-requires c =
+    let r = asked-below _ _ (fine-at c.args.x _ c.f32_to_f64-w.ensures c.requires.gain_range c.requires.t) c.if-w.false in
+    record { lower_bound = r.0; upper_bound = r.1 }
 
 pub int_to_float-t : goal.int_to_float-t
 unfolding in_float

@@ -55,7 +55,8 @@ pub returns-then-b-gt2147483648 : goal.returns-then-b-gt2147483648
 returns-then-b-gt2147483648 c =
     let w : bits c.args.x < 2 ^ 32 = to_bits-lt binary32 c.args.x (held _ (sym c.well_formed.0.1)) in
     zero_quotient
-    ∙ subst (λ (v : Float). nan ≡ sqrt_of v) (same c.args.x (held _ (sym c.well_formed.0.1))) (neg_bits (bits c.args.x) c.if-b-gt2147483648.true w (read_real c.args.x (held _ (sym c.well_formed.0.1)) (real c.args.x c.if-x.false)))
+    ∙ subst (λ (v : Float). nan ≡ sqrt_of v) (same c.args.x (held _ (sym c.well_formed.0.1)))
+    (neg_bits (bits c.args.x) c.if-b-gt2147483648.true w (read_real c.args.x (held _ (sym c.well_formed.0.1)) (real c.args.x c.if-x.false)))
 
 pub root_bits-requires : goal.root_bits-requires
 root_bits-requires c =
