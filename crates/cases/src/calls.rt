@@ -9,6 +9,7 @@ use state_words::from_words;
 use words::values_at;
 
 // A decoder's state and the history that its calls are lent, with room for one sample too many.
+// The PCM buffer stands beside it: a call through a reference lends one field.
 #[derive(Drop)]
 pub(crate) struct Decoder {
     pub state: State,

@@ -30,7 +30,7 @@ fn answer_sum<const BINS: usize, const SAMPLES: usize>(wire: &mut Wire) -> io::R
     wire.write_all(&out)
 }
 
-// The same by half of the sums, with the number of products.
+// The same by half of the sums, which answers the number of products too.
 fn answer_mirrored<const BINS: usize, const SAMPLES: usize>(wire: &mut Wire) -> io::Result<()>
     requires { (BINS ≤ 960) × (is_frame_size BINS ≡ true) × (SAMPLES ≡ 2 * BINS) }
 {
