@@ -13,35 +13,44 @@ use cosine_circle::{FRAME_MOST, is_frame_size};
 use cosine_table::cosines;
 use reply::Refused;
 
-// The cosine of r quarters and j parts more of a circle of 7,680.
-fn corner(c: &[f64; 1921], j: usize, r: usize) -> f64
-    requires c_value { c.now ≡ cosines }
-    requires j_nonzero { (0 < j) × (j < 1920) × (r ≤ 6) }
-    ensures { result ≡ cos_at ((1920 * r + j) % 7680) }
-{
-    match r {
-        0 | 4 => c[j],
-        1 | 5 => -c[1920 - j],
-        2 | 6 => -c[j],
-        _ => c[1920 - j],
-    }
+// The table of cosines, and the frame size whose pairs are read from it.
+#[derive(Clone, Copy)]
+struct Table<'a> {
+    c: &'a [f64; 1921],
+    n: usize,
+    ghost c_value: { c.now ≡ cosines },
+    ghost frame: { is_frame_size n ≡ true },
 }
 
-// The n pairs of quarter r of the circle.
-#[tactic(auto, using(crate::proofs::Pairs::in_quarter, crate::proofs::Pairs::in_step))]
-fn quarter(c: &[f64; 1921], n: usize, r: usize, pairs: &mut [f64])
-    requires c_value { c.now ≡ cosines }
-    requires n_value { is_frame_size n ≡ true }
-    requires r_bound { (r < 6) × (length pairs.old ≡ 12 * n) }
-    ensures { pairs.new
-        ≡ front (take (2 * (n * r)) pairs.old ++ tab (λ j. pair_at n (2 * (n * r) + j)) (2 * n)) pairs.old (2 * (n * r) + 2 * n) }
-{
-    let s = FRAME_MOST / n;
-    let first = 2 * (n * r);
-    for p in 0..n {
-        let j = s * (2 * p + 1);
-        pairs[first + 2 * p] = corner(c, j, r);
-        pairs[first + (2 * p + 1)] = corner(c, j, r + 1);
+impl Table<'_> {
+    // The cosine of r quarters and j parts more of a circle of 7,680.
+    fn corner(self, j: usize, r: usize) -> f64
+        requires { (0 < j) × (j < 1920) × (r ≤ 6) }
+        ensures { result ≡ cos_at ((1920 * r + j) % 7680) }
+    {
+        match r {
+            0 | 4 => self.c[j],
+            1 | 5 => -self.c[1920 - j],
+            2 | 6 => -self.c[j],
+            _ => self.c[1920 - j],
+        }
+    }
+
+    // The n pairs of quarter r of the circle.
+    #[tactic(auto, using(crate::proofs::Pairs::in_quarter, crate::proofs::Pairs::in_step))]
+    fn quarter(self, r: usize, pairs: &mut [f64])
+        requires { (r < 6) × (length pairs.old ≡ 12 * self.n) }
+        ensures { pairs.new
+            ≡ front (take (2 * (self.entry.n * r)) pairs.old ++ tab (λ j. pair_at self.entry.n (2 * (self.entry.n * r) + j)) (2 * self.entry.n))
+            pairs.old (2 * (self.entry.n * r) + 2 * self.entry.n) }
+    {
+        let s = FRAME_MOST / self.n;
+        let first = 2 * (self.n * r);
+        for p in 0..self.n {
+            let j = s * (2 * p + 1);
+            pairs[first + 2 * p] = self.corner(j, r);
+            pairs[first + (2 * p + 1)] = self.corner(j, r + 1);
+        }
     }
 }
 
@@ -59,9 +68,9 @@ pub fn fill_pairs(n: usize, pairs: &mut [f64]) -> Result<(), Refused>
     if !pairs_take(n, pairs.len()) {
         return Err(Refused);
     }
-    let c = cosines();
+    let table = Table { c: &cosines(), n };
     for r in 0..6 {
-        quarter(&c, n, r, pairs);
+        table.quarter(r, pairs);
     }
     Ok(())
 }

@@ -53,25 +53,6 @@ fn onward(step: &[usize; 8], w: usize, at: &mut [usize; 8])
     }
 }
 
-// The sums of eight outputs from t on: eight sums side by side, each in the order of the inputs.
-fn eight(circle: &[f64; 3840], x: &[f32], t: usize) -> [f64; 8]
-    requires circle { IsCircle (length x.now) circle.now }
-    requires x_value { is_frame_size (length x.now) ≡ true }
-    requires t_bound { t < 1920 }
-    ensures { result ≡ tab (λ j. imdct_sum (length x.now) x.now (t + j)) 8 }
-{
-    let n = x.len();
-    let w = 4 * n;
-    let step = along(2 * t + 1 + n, 2, w);
-    let mut at = along(t + n / 2, 1, w);
-    let mut acc = [0.0f64; 8];
-    for value in x {
-        add_terms(circle, f32_to_f64(*value), &at, &mut acc);
-        onward(&step, w, &mut at);
-    }
-    acc
-}
-
 // Half of each of eight sums, rounded to f32.
 fn halves(sums: &[f64; 8], out: &mut [f32])
     requires { length out.old ≡ 8 }
@@ -82,14 +63,41 @@ fn halves(sums: &[f64; 8], out: &mut [f32])
     }
 }
 
-fn outputs(circle: &[f64; 3840], x: &[f32], out: &mut [f32])
-    requires circle { IsCircle (length x.now) circle.now }
-    requires x_value { is_frame_size (length x.now) ≡ true }
-    requires out_len { length out.old ≡ 2 * length x.now }
-    ensures { out.new ≡ imdct (length x.now) x.now }
-{
-    for t in (0..out.len()).step_by(8) {
-        halves(&eight(circle, x, t), &mut out[t..t + 8]);
+// The inputs of a frame, beside the circle of cosines for their number.
+#[derive(Clone, Copy)]
+struct Frame<'a> {
+    circle: &'a [f64; 3840],
+    x: &'a [f32],
+    ghost circle_is: { IsCircle (length x.now) circle.now },
+    ghost frame: { is_frame_size (length x.now) ≡ true },
+}
+
+impl Frame<'_> {
+    // The sums of eight outputs from t on: eight sums side by side, each in the order of the inputs.
+    fn eight(self, t: usize) -> [f64; 8]
+        requires { t < 1920 }
+        ensures { result ≡ tab (λ j. imdct_sum (length self.entry.x.now) self.entry.x.now (t + j)) 8 }
+    {
+        let n = self.x.len();
+        let w = 4 * n;
+        let step = along(2 * t + 1 + n, 2, w);
+        let mut at = along(t + n / 2, 1, w);
+        let mut acc = [0.0f64; 8];
+        for value in self.x {
+            add_terms(self.circle, f32_to_f64(*value), &at, &mut acc);
+            onward(&step, w, &mut at);
+        }
+        acc
+    }
+
+    // All 2 n outputs.
+    fn outputs(self, out: &mut [f32])
+        requires { length out.old ≡ 2 * length self.x.now }
+        ensures { out.new ≡ imdct (length self.entry.x.now) self.entry.x.now }
+    {
+        for t in (0..out.len()).step_by(8) {
+            halves(&self.eight(t), &mut out[t..t + 8]);
+        }
     }
 }
 
@@ -107,6 +115,10 @@ pub fn imdct_naive_f32(spectrum: &[f32], out: &mut [f32]) -> Result<(), Refused>
     if !imdct_takes(spectrum.len(), out.len()) {
         return Err(Refused);
     }
-    outputs(&circle(spectrum.len()), spectrum, out);
+    let frame = Frame {
+        circle: &circle(spectrum.len()),
+        x: spectrum,
+    };
+    frame.outputs(out);
     Ok(())
 }

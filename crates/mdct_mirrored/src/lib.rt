@@ -13,55 +13,61 @@ use mdct::imdct::imdct_takes;
 use mdct_pairs::pair_sums;
 use reply::Refused;
 
-// Output u of the first half, odd about its middle: past it, the mirrored sum with its sign turned.
-fn odd_output(sums: &[f64], u: usize) -> f32
-    requires { u < length sums.now }
-    ensures { result ≡ odd_at (length sums.now) sums.now u }
-{
-    let n = sums.len();
-    if u < n / 2 {
-        f64_to_f32(0.5 * sums[2 * u])
-    } else {
-        f64_to_f32(0.5 * (0.0 - sums[2 * (n - 1 - u)]))
-    }
+// The half of the sums: an even number of them.
+#[derive(Clone, Copy)]
+struct Half<'a> {
+    sums: &'a [f64],
+    ghost even: { length sums.now % 2 ≡ 0 },
 }
 
-// Output u of the second half, even about its middle: past it, the mirrored sum.
-fn even_output(sums: &[f64], u: usize) -> f32
-    requires sums_len { length sums.now % 2 ≡ 0 }
-    requires u_in_bounds { u < length sums.now }
-    ensures { result ≡ even_at (length sums.now) sums.now u }
-{
-    let n = sums.len();
-    if u < n / 2 {
-        f64_to_f32(0.5 * sums[2 * u + 1])
-    } else {
-        f64_to_f32(0.5 * sums[2 * (n - 1 - u) + 1])
+impl Half<'_> {
+    // Output u of the first half, odd about its middle: past it, the mirrored sum with its sign turned.
+    fn odd_output(self, u: usize) -> f32
+        requires { u < length self.sums.now }
+        ensures { result ≡ odd_at (length self.entry.sums.now) self.entry.sums.now u }
+    {
+        let n = self.sums.len();
+        if u < n / 2 {
+            f64_to_f32(0.5 * self.sums[2 * u])
+        } else {
+            f64_to_f32(0.5 * (0.0 - self.sums[2 * (n - 1 - u)]))
+        }
     }
-}
 
-// Output t of 2 n, from the half of the sums.
-fn output(sums: &[f64], t: usize) -> f32
-    requires sums_len { length sums.now % 2 ≡ 0 }
-    requires t_bound { t < 2 * length sums.now }
-    ensures { result ≡ get_or (mirrored_outputs (length sums.now) sums.now) t nan }
-{
-    let n = sums.len();
-    if t < n {
-        odd_output(sums, t)
-    } else {
-        even_output(sums, t - n)
+    // Output u of the second half, even about its middle: past it, the mirrored sum.
+    fn even_output(self, u: usize) -> f32
+        requires { u < length self.sums.now }
+        ensures { result ≡ even_at (length self.entry.sums.now) self.entry.sums.now u }
+    {
+        let n = self.sums.len();
+        if u < n / 2 {
+            f64_to_f32(0.5 * self.sums[2 * u + 1])
+        } else {
+            f64_to_f32(0.5 * self.sums[2 * (n - 1 - u) + 1])
+        }
     }
-}
 
-// All 2 n outputs, from the half of the sums.
-fn outputs(sums: &[f64], out: &mut [f32])
-    requires sums_len { length sums.now % 2 ≡ 0 }
-    requires out_len { length out.old ≡ 2 * length sums.now }
-    ensures { out.new ≡ mirrored_outputs (length sums.now) sums.now }
-{
-    for (t, o) in out.iter_mut().enumerate() {
-        *o = output(sums, t);
+    // Output t of 2 n.
+    fn output(self, t: usize) -> f32
+        requires { t < 2 * length self.sums.now }
+        ensures { result ≡ get_or (mirrored_outputs (length self.entry.sums.now) self.entry.sums.now) t nan }
+    {
+        let n = self.sums.len();
+        if t < n {
+            self.odd_output(t)
+        } else {
+            self.even_output(t - n)
+        }
+    }
+
+    // All 2 n outputs.
+    fn outputs(self, out: &mut [f32])
+        requires { length out.old ≡ 2 * length self.sums.now }
+        ensures { out.new ≡ mirrored_outputs (length self.entry.sums.now) self.entry.sums.now }
+    {
+        for (t, o) in out.iter_mut().enumerate() {
+            *o = self.output(t);
+        }
     }
 }
 
@@ -76,6 +82,6 @@ pub fn imdct_mirrored_f32(spectrum: &[f32], out: &mut [f32]) -> Result<usize, Re
     let mut room = [0.0f64; FRAME_MOST];
     let sums = &mut room[..spectrum.len()];
     let products = pair_sums(spectrum, sums)?;
-    outputs(sums, out);
+    Half { sums }.outputs(out);
     Ok(products)
 }

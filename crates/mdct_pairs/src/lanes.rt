@@ -1,10 +1,11 @@
-// Four pairs of sums side by side, each in the order of the inputs.
+// Four pairs of sums side by side, each in the order of the inputs, and those of a whole frame.
 ghost use Rattle.std.specs.Prelude.{◌≡◌, true, ℕ, ◌+◌, ◌*◌, ◌/◌, ◌%◌, ◌<◌, ◌≤◌, length, get_or};
 ghost use Rattle.std.specs.Float.{nan, binary64};
 ghost use Rattle.std.specs.Float.Ieee.{add, mul};
 ghost use Rattle.loops.specs.Front.{tab};
 ghost use Rattle.cosine_circle.specs.Circle.{is_frame_size};
 ghost use Rattle.mdct.specs.Imdct.{imdct_sum};
+ghost use Rattle.mdct_work.specs.Work.{values, total, pair_sums};
 ghost use Rattle.cosine_pairs.specs.Pairs.{pairs_of};
 ghost use Rattle.mdct_pairs.specs.Inputs.{inputs_of};
 
@@ -63,31 +64,57 @@ fn first_places(t: usize, n: usize) -> [usize; 4]
     at
 }
 
-// The sums of outputs t to t + 3, each beside that of the output n further on. Two inputs are taken between two looks at the circle's end.
-pub(crate) fn four(pairs: &[f64], inputs: &[f64], x: &[f32], t: usize) -> Sums
-    requires x_value { is_frame_size (length x.now) ≡ true }
-    requires pairs_value { (pairs.now ≡ pairs_of (length x.now)) × (inputs.now ≡ inputs_of x.now) }
-    requires t_in_bounds { 2 * t + 8 ≤ length x.now }
-    ensures { (result.sums ≡ tab (λ e. imdct_sum (length x.now) x.now (t + e / 2 + e % 2 * length x.now)) 8)
-        × (result.products ≡ 8 * length x.now) }
-{
-    let n = x.len();
-    let half = n / 2;
-    let w = 8 * n;
-    let step = 2 * (2 * t + 1 + n);
-    let mut at = first_places(t, n);
-    let mut acc = [0.0f64; 8];
-    let mut products = 0;
-    for h in 0..half {
-        add_terms(pairs, inputs, 4 * h, &at, &mut acc);
-        onward(step, &mut at);
-        add_terms(pairs, inputs, 4 * h + 2, &at, &mut acc);
-        onward(step, &mut at);
-        around(w, &mut at);
-        products += 16;
+// What the sums of a frame are made from: its inputs, and both tables.
+#[derive(Clone, Copy)]
+pub(crate) struct Tables<'a> {
+    pub(crate) pairs: &'a [f64],
+    pub(crate) inputs: &'a [f64],
+    pub(crate) x: &'a [f32],
+    ghost frame: { is_frame_size (length x.now) ≡ true },
+    ghost pairs_value: { pairs.now ≡ pairs_of (length x.now) },
+    ghost inputs_value: { inputs.now ≡ inputs_of x.now },
+}
+
+impl Tables<'_> {
+    // The sums of outputs t to t + 3, each beside that of the output n further on. Two inputs are taken between two looks at the circle's end.
+    pub(crate) fn four(self, t: usize) -> Sums
+        requires { 2 * t + 8 ≤ length self.x.now }
+        ensures { (result.sums
+            ≡ tab (λ e. imdct_sum (length self.entry.x.now) self.entry.x.now (t + e / 2 + e % 2 * length self.entry.x.now)) 8)
+            × (result.products ≡ 8 * length self.entry.x.now) }
+    {
+        let n = self.x.len();
+        let half = n / 2;
+        let w = 8 * n;
+        let step = 2 * (2 * t + 1 + n);
+        let mut at = first_places(t, n);
+        let mut acc = [0.0f64; 8];
+        let mut products = 0;
+        for h in 0..half {
+            add_terms(self.pairs, self.inputs, 4 * h, &at, &mut acc);
+            onward(step, &mut at);
+            add_terms(self.pairs, self.inputs, 4 * h + 2, &at, &mut acc);
+            onward(step, &mut at);
+            around(w, &mut at);
+            products += 16;
+        }
+        Sums {
+            sums: acc,
+            products,
+        }
     }
-    Sums {
-        sums: acc,
-        products,
+    // The n sums, in pairs, and the products made for them.
+    pub(crate) fn fill_sums(self, sums: &mut [f64]) -> usize
+        requires { length sums.old ≡ length self.x.now }
+        ensures { (sums.new ≡ values (pair_sums (length self.entry.x.now) self.entry.x.now))
+            × (result ≡ total (pair_sums (length self.entry.x.now) self.entry.x.now)) }
+    {
+        let mut products = 0;
+        for t in (0..sums.len()).step_by(8) {
+            let made = self.four(t / 2);
+            sums[t..t + 8].copy_from_slice(&made.sums);
+            products += made.products;
+        }
+        products
     }
 }

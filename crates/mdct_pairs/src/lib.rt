@@ -10,11 +10,10 @@ ghost use Rattle.mdct_work.specs.Work.{values, total, pair_sums};
 
 use cosine_circle::{FRAME_LEAST, is_frame_size};
 use cosine_pairs::fill_pairs;
-use frame::fill_sums;
 use inputs::fill_inputs;
+use lanes::Tables;
 use reply::Refused;
 
-mod frame;
 mod inputs;
 mod lanes;
 
@@ -33,7 +32,12 @@ fn sums_by_tables(
 {
     fill_pairs(spectrum.len(), pairs).unwrap();
     fill_inputs(spectrum, inputs);
-    fill_sums(pairs, inputs, spectrum, sums)
+    let tables = Tables {
+        pairs,
+        inputs,
+        x: spectrum,
+    };
+    tables.fill_sums(sums)
 }
 
 // The sums, with room for the tables of every frame whose cosines take at most P places and whose inputs at most I.

@@ -13,10 +13,13 @@ returns-then-not-pairs_take c = reply-no _ _ _ (sym c.pairs_take.ensures ∙ c.i
 pub loop-r-init : goal.loop-r-init
 loop-r-init c = quarters_none c.args.n c.args.pairs.now
 
+pub invariant_of-table : goal.invariant_of-table
+invariant_of-table c =
+    let f = takes_fits _ _ (sym c.pairs_take.ensures ∙ c.if-not-pairs_take.false) in record { c_value = c.cosines.ensures; frame = f.0 }
+
 pub quarter-requires : goal.quarter-requires
 quarter-requires c =
-    let f = takes_fits _ _ (sym c.pairs_take.ensures ∙ c.if-not-pairs_take.false) in
-    record { c_value = c.cosines-c.ensures; n_value = f.0; r_bound = (search rules, search rules) }
+    let f = takes_fits _ _ (sym c.pairs_take.ensures ∙ c.if-not-pairs_take.false) in (search rules, search rules)
 
 pub loop-r-preserved : goal.loop-r-preserved
 loop-r-preserved c = quarters_more _ _ _ _ _ c.loop-r.invariant c.quarter.ensures

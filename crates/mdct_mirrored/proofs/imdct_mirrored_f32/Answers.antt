@@ -30,12 +30,19 @@ returns-in_err-products c =
     let l = lent-count (of_bits binary64 0) (length c.args.spectrum.now) 960 (few _ f.0) in
     absurd (sums-taken _ _ f.0 (sym l) c.pair_sums.ensures c.in_err-products.was)
 
+pub invariant_of-outputs : goal.invariant_of-outputs
+invariant_of-outputs c =
+    let s = c.pair_sums in
+    let f = takes_fits _ _ (sym c.imdct_takes.ensures ∙ c.if-not-imdct_takes.false) in
+    let k = back-size (of_bits binary64 0) (length c.args.spectrum.now) 960 (few _ f.0) s.new.sums s.auto.sums in
+    record { even = ap (λ y. y % 2) k ∙ even _ (sized _ f.0) }
+
 pub outputs-requires : goal.outputs-requires
 outputs-requires c =
     let s = c.pair_sums in
     let f = takes_fits _ _ (sym c.imdct_takes.ensures ∙ c.if-not-imdct_takes.false) in
     let k = back-size (of_bits binary64 0) (length c.args.spectrum.now) 960 (few _ f.0) s.new.sums s.auto.sums in
-    record { sums_len = ap (λ y. y % 2) k ∙ even _ (sized _ f.0); out_len = f.1 ∙ ap (λ y. 2 * y) (sym k) }
+    f.1 ∙ ap (λ y. 2 * y) (sym k)
 
 pub returns : goal.returns
 returns c =

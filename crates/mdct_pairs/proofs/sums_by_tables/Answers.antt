@@ -13,7 +13,11 @@ unwrap-requires c = reply-taken _ _ _ c.fill_pairs.ensures ∙ takes-frame _ _ c
 pub fill_inputs-requires : goal.fill_inputs-requires
 fill_inputs-requires c = (few _ c.requires.spectrum_value, c.requires.pairs_len.1)
 
-pub fill_sums-requires-clause-pairs_value : goal.fill_sums-requires-clause-pairs_value
+pub invariant_of-tables : goal.invariant_of-tables
 unfolding pairs_reply
-fill_sums-requires-clause-pairs_value c =
-    (reply-lent _ _ _ c.fill_pairs.ensures (takes-frame _ _ c.requires.spectrum_value c.requires.pairs_len.0), c.fill_inputs.ensures)
+invariant_of-tables c =
+    record {
+      frame = c.requires.spectrum_value;
+      pairs_value = reply-lent _ _ _ c.fill_pairs.ensures (takes-frame _ _ c.requires.spectrum_value c.requires.pairs_len.0);
+      inputs_value = c.fill_inputs.ensures;
+    }

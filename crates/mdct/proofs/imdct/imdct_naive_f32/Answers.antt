@@ -11,10 +11,13 @@ pub returns-then-not-imdct_takes : goal.returns-then-not-imdct_takes
 unfolding imdct_reply
 returns-then-not-imdct_takes c = reply-no _ _ _ (sym c.imdct_takes.ensures ∙ c.if-not-imdct_takes.true) refl
 
-pub outputs-requires : goal.outputs-requires
-outputs-requires c =
+pub invariant_of-frame : goal.invariant_of-frame
+invariant_of-frame c =
     let f = takes_fits _ _ (sym c.imdct_takes.ensures ∙ c.if-not-imdct_takes.false) in
-    record { circle = subst (IsCircle (length c.args.spectrum.now)) (sym c.circle.ensures) (circle_is _ f.0); x_value = f.0; out_len = f.1 }
+    record { circle_is = subst (IsCircle (length c.args.spectrum.now)) (sym c.circle.ensures) (circle_is _ f.0); frame = f.0 }
+
+pub outputs-requires : goal.outputs-requires
+outputs-requires c = let f = takes_fits _ _ (sym c.imdct_takes.ensures ∙ c.if-not-imdct_takes.false) in f.1
 
 pub returns : goal.returns
 unfolding imdct_reply

@@ -3,8 +3,8 @@ use mathlib.Core.Path.{◌≡◌}
 use Prim.Native.Nat.{ℕ, ◌*◌}
 use Rattle.loops.specs.Front.{tab}
 use Rattle.mdct_pairs.proofs.PairLanes.{places, sums}
-use Rattle.mdct_pairs.proofs.lanes.four.Given as goal
+use Rattle.mdct_pairs.proofs.lanes.Tables.four.Given as goal
 
 abbrev pub invariant-loop-h : goal.invariant-loop-h
 invariant-loop-h l =
-    (l.at ≡ tab (λ (j : ℕ). 2 * places l.n l.t (2 * l.h) j) 4) × (l.acc ≡ tab (sums l.n l.x l.t (2 * l.h)) 8) × (l.products ≡ 16 * l.h)
+    (l.at ≡ tab (λ (j : ℕ). 2 * places l.n l.t (2 * l.h) j) 4) × (l.acc ≡ tab (sums l.n l.self.x.now l.t (2 * l.h)) 8) × (l.products ≡ 16 * l.h)

@@ -1,8 +1,8 @@
--- `mdct_mirrored::even_output` meets its contract: the sum before the middle, or the mirrored one.
+-- `Half::even_output` meets its contract: the sum before the middle, or the mirrored one.
 use Rattle.mdct.specs.Imdct.{half_of}
 use Rattle.mdct_mirrored.specs.Mirrored.{even_sum}
 use Rattle.mdct_mirrored.proofs.Halves.{even-before, even-past}
-use Rattle.mdct_mirrored.proofs.even_output.Goals as goal
+use Rattle.mdct_mirrored.proofs.Half.even_output.Goals as goal
 
 pub returns-then-u-n : goal.returns-then-u-n
 unfolding half_of

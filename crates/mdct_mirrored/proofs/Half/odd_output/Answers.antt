@@ -1,9 +1,9 @@
--- `mdct_mirrored::odd_output` meets its contract: the sum before the middle, or the mirrored one with its sign turned.
+-- `Half::odd_output` meets its contract: the sum before the middle, or the mirrored one with its sign turned.
 use Rattle.float_sign.specs.Turned.{turned}
 use Rattle.mdct.specs.Imdct.{half_of}
 use Rattle.mdct_mirrored.specs.Mirrored.{odd_sum}
 use Rattle.mdct_mirrored.proofs.Halves.{odd-before, odd-past}
-use Rattle.mdct_mirrored.proofs.odd_output.Goals as goal
+use Rattle.mdct_mirrored.proofs.Half.odd_output.Goals as goal
 
 pub returns-then-u-n : goal.returns-then-u-n
 unfolding half_of

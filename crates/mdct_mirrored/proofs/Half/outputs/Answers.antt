@@ -3,7 +3,7 @@ use lib.Ieee.{nan}
 use borrow.Author.Rules.{rules}
 use Rattle.loops.specs.Front.{tab-none, tab-more}
 use Rattle.mdct_mirrored.proofs.Halves.{filled}
-use Rattle.mdct_mirrored.proofs.outputs.Goals as goal
+use Rattle.mdct_mirrored.proofs.Half.outputs.Goals as goal
 
 pub loop-t-init : goal.loop-t-init
 loop-t-init c = tab-none _ _
