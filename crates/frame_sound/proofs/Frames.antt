@@ -10,7 +10,7 @@ use lib.Dec.{eqb, lit≤}
 use lib.Ieee.{Float}
 use borrow.Author.Tests.{le-leb, eq-eqb, ne_eqb}
 use Rattle.loops.specs.Logic.{and_both}
-use Rattle.reply.specs.Reply.{reply, reply-lent, reply-taken}
+use Rattle.reply.specs.Reply.{reply, reply_if, reply-lent, reply-taken, reply-yes}
 use Rattle.history.specs.History.{samples, channel, whole, both, newest}
 use Rattle.history.proofs.Parts.{slice-take}
 use Rattle.settings.specs.Settings.{frame, stereo, check_settings, block_factor, needed}
@@ -18,6 +18,10 @@ use Rattle.settings.specs.declared.Settings.{Settings}
 use Rattle.settings.proofs.Passed.{passed, frame_is, frame-high, frame_divides, downsample_low, needed-is}
 use Rattle.deemphasis.specs.Deemphasis.{Sound, has_room, deemphasis, deemphasised, deemphasis_mono, deemphasis_stereo}
 use Rattle.frame_sound.specs.FrameSound.{frame_sound, sound_in}
+
+-- a step that took what it was given, where the call takes it
+pub yes : {A : Type 0} (b : Bool) (x was : A) {t : Bool} {y : A} → b ≡ true → (t ≡ true) × (y ≡ x) → reply t y ≡ reply_if b x was
+yes b x was {y = y} q p = ap (λ z. reply z y) p.0 ∙ reply-yes b x was q p.1
 
 room_fits : (d n room : ℕ) → 1 ≤ d → n % d ≡ 0 → n / d ≤ room → has_room d n room ≡ true
 unfolding has_room

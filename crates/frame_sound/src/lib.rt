@@ -2,10 +2,8 @@
 
 #![tactic(auto)]
 
-ghost use Rattle.std.specs.Prelude.{◌≡◌, ◌≤◌, length};
+ghost use Rattle.std.specs.Prelude.{◌≡◌, length};
 ghost use Rattle.reply.specs.Reply.{replied, value_or, reply_if};
-ghost use Rattle.history.specs.History.{whole};
-ghost use Rattle.settings.specs.Settings.{check_settings, needed};
 ghost use Rattle.deemphasis.specs.Deemphasis.{sound};
 ghost use Rattle.frame_sound.specs.FrameSound.{frame_sound, sound_in, sound_takes};
 
@@ -15,23 +13,6 @@ use reply::Refused;
 use settings::Settings;
 use settings::checks::settings_pass;
 use sizes::{frame_size, needed_samples};
-
-// The newest N samples of each used channel as PCM; the memories after it.
-fn deemphasise(k: Settings, history: &[f32], memories: [f32; 2], pcm: &mut [f32]) -> [f32; 2]
-    requires { (check_settings k ≡ 0) × (length history.now ≡ whole) × (needed k ≤ length pcm.old) }
-    ensures { sound pcm.new result ≡ sound_in pcm.old (frame_sound k memories history.now) }
-{
-    let n = frame_size(k.lm);
-    let d = k.downsample as usize;
-    let end = history::SAMPLES;
-    let first = &history[end - n..end];
-    if k.channels == 2 {
-        let last = history::CHANNEL + end;
-        deemphasis_stereo(first, &history[last - n..last], memories, d, pcm).unwrap()
-    } else {
-        deemphasis_mono(first, memories, d, pcm).unwrap()
-    }
-}
 
 // Settings that pass, a whole history, and room for the samples.
 #[tactic(auto, unfolding(crate::specs::FrameSound::sound_takes))]
@@ -55,5 +36,14 @@ pub fn frame_sound(
     if !sound_takes(k, history.len(), pcm.len()) {
         return Err(Refused);
     }
-    Ok(deemphasise(k, history, memories, pcm))
+    let n = frame_size(k.lm);
+    let d = k.downsample as usize;
+    let end = history::SAMPLES;
+    let first = &history[end - n..end];
+    if k.channels == 2 {
+        let last = history::CHANNEL + end;
+        deemphasis_stereo(first, &history[last - n..last], memories, d, pcm)
+    } else {
+        deemphasis_mono(first, memories, d, pcm)
+    }
 }

@@ -56,7 +56,7 @@ pub record Fits (lm start end downsample : ℕ) : Type 0 where
   pub last : end ≤ 21
   pub every : 1 ≤ downsample
 
-pub fits : (lm start end d : ℕ) → settings_fit lm start end d ≡ true → Fits lm start end d
+fits : (lm start end d : ℕ) → settings_fit lm start end d ≡ true → Fits lm start end d
 unfolding settings_fit
 fits lm start end d e =
     let p = and-true (leb lm 3) _ e in

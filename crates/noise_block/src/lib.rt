@@ -5,11 +5,11 @@
 ghost use Rattle.std.specs.Prelude.{◌≡◌, ◌^◌, ◌≤◌, length};
 ghost use Rattle.reply.specs.Reply.{replied, reply_if, value_or};
 ghost use Rattle.noise_block.specs.Block.{drawn_block, noise_block};
-ghost use Rattle.noise_block.specs.Call.{settings_fit, block_takes};
+ghost use Rattle.noise_block.specs.Call.{block_takes};
 
 use block::window_outputs;
 use cosine_circle::FRAME_MOST;
-use custom_mode::standard::{BANDS, MAX_BANDS, OVERLAP, SHORT_BLOCK};
+use custom_mode::standard::{MAX_BANDS, OVERLAP, SHORT_BLOCK};
 use mdct_mirrored::imdct_mirrored_f32;
 use noise_spectrum::{Span, noise_spectrum};
 use reply::Refused;
@@ -21,13 +21,6 @@ const LM_MOST: usize = 3;
 // The longest block: the longest frame and its overlap.
 pub const BLOCK_MOST: usize = FRAME_MOST + OVERLAP;
 
-// lm 0 to 3, end above start and at most 21, and a factor of downsampling.
-fn settings_fit(lm: usize, span: Span) -> bool
-    ensures { result ≡ settings_fit lm span.start span.end span.downsample }
-{
-    lm <= LM_MOST && span.start < span.end && span.end <= BANDS && 1 <= span.downsample
-}
-
 fn factor(lm: usize) -> usize
     requires { lm ≤ 3 }
     ensures { (result ≡ 2 ^ lm) × (1 ≤ result) × (result ≤ 8) }
@@ -35,11 +28,15 @@ fn factor(lm: usize) -> usize
     1 << lm
 }
 
-// With so many energies and so many samples lent.
+// lm 0 to 3, a span that fits and has a band, 25 energies, and N + 120 samples.
 fn block_takes(lm: usize, span: Span, energies: usize, size: usize) -> bool
     ensures { result ≡ block_takes lm span.start span.end span.downsample energies size }
 {
-    settings_fit(lm, span) && energies == MAX_BANDS && size == SHORT_BLOCK * factor(lm) + OVERLAP
+    lm <= LM_MOST
+        && span.start < span.end
+        && span.fits()
+        && energies == MAX_BANDS
+        && size == SHORT_BLOCK * factor(lm) + OVERLAP
 }
 
 // A channel's noise block in a buffer of N + 120 samples, from its 25 energies: answers the seed after it.

@@ -17,7 +17,7 @@ use Rattle.reply.specs.declared.Refused.{Refused}
 use Rattle.reply.specs.Reply.{Reply, replied, value_or, reply_if, reply-lent, reply-taken}
 use Rattle.buffers.specs.Buffers.{zero32}
 use Rattle.noise_shape.specs.Shape.{Shape, shaped, noise_shape}
-use Rattle.noise_spectrum.specs.Spectrum.{gain_turn, bound, cleared, spectrum, spectrum_over, spectrum_fits, spectrum_takes}
+use Rattle.noise_spectrum.specs.Spectrum.{gain_turn, bound, cleared, spectrum, spectrum_over, span_fits, spectrum_fits, spectrum_takes}
 
 -- ---- the spectrum
 
@@ -58,8 +58,8 @@ pub record Fits (m start end downsample : ℕ) : Type 0 where
   pub last : end ≤ 21
   pub every : 1 ≤ downsample
 
-pub fits : (m start end d : ℕ) → spectrum_fits m start end d ≡ true → Fits m start end d
-unfolding spectrum_fits
+fits : (m start end d : ℕ) → spectrum_fits m start end d ≡ true → Fits m start end d
+unfolding spectrum_fits span_fits
 fits m start end d e =
     let p = and-true (leb m 8) _ e in
     let q = and-true (leb start end) _ p.1 in
@@ -80,7 +80,7 @@ takes-is m start end d k n f l b = ap₂ ◌&&◌ f (ap₂ ◌&&◌ (eq-eqb k 25
 -- what a call that fits leaves over zeros
 module _ (m start end d seed : ℕ) (energies bins : List Float) (f : Fits m start end d) (l : length energies ≡ 25) (b : length bins ≡ 120 * m) where
   all_fit : spectrum_fits m start end d ≡ true
-  unfolding spectrum_fits
+  unfolding spectrum_fits span_fits
   all_fit =
       ap₂ ◌&&◌ (le-leb m 8 f.small) (ap₂ ◌&&◌ (le-leb start end f.some) (ap₂ ◌&&◌ (le-leb end 21 f.last) (le-leb 1 d f.every)))
 

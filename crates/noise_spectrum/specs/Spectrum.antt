@@ -42,9 +42,13 @@ spectrum_over m start end downsample seed energies bins =
 unfoldable pub spectrum : ℕ → ℕ → ℕ → ℕ → ℕ → List Float → List Float
 spectrum m start end downsample seed energies = (spectrum_over m start end downsample seed energies (replicate (short_block * m) zero32)).bins
 
--- a block factor of at most 8, end at least start and at most 21, and a factor of downsampling
+-- end at least start and at most 21, and a factor of downsampling
+unfoldable pub span_fits : ℕ → ℕ → ℕ → Bool
+span_fits start end downsample = leb start end && (leb end bands && leb 1 downsample)
+
+-- that, and a block factor of at most 8
 unfoldable pub spectrum_fits : ℕ → ℕ → ℕ → ℕ → Bool
-spectrum_fits m start end downsample = leb m 8 && (leb start end && (leb end bands && leb 1 downsample))
+spectrum_fits m start end downsample = leb m 8 && span_fits start end downsample
 
 -- with so many energies and so many bins lent
 unfoldable pub spectrum_takes : ℕ → ℕ → ℕ → ℕ → ℕ → ℕ → Bool

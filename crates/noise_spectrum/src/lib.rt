@@ -7,7 +7,7 @@ ghost use Rattle.custom_mode.specs.Mode.{bands, max_bands, last_edge};
 ghost use Rattle.loops.specs.Fold.{fold_range};
 ghost use Rattle.reply.specs.Reply.{replied, reply_if, value_or};
 ghost use Rattle.noise_shape.specs.Shape.{shaped};
-ghost use Rattle.noise_spectrum.specs.Spectrum.{gain_turn, bound, spectrum_over, spectrum_fits, spectrum_takes};
+ghost use Rattle.noise_spectrum.specs.Spectrum.{gain_turn, bound, spectrum_over, span_fits, spectrum_takes};
 
 use band_gain::band_gain;
 use buffers::scale;
@@ -23,46 +23,62 @@ pub struct Span {
     pub downsample: usize,
 }
 
-// Each band of the span, times its gain.
-#[tactic(auto, using(noise_shape::proofs::Calls::ends))]
-fn apply_gains(bins: &mut [f32], m: usize, span: Span, energies: &[f32])
-    requires { (m ≤ 8) × (span.start ≤ span.end) × (span.end ≤ bands) × (m * last_edge ≤ length bins.old) × (length energies.now ≡ max_bands) }
-    ensures { bins.new ≡ fold_range (gain_turn m energies.now) bins.old span.start span.end }
-{
-    for i in span.start..span.end {
-        let g = band_gain(energies[i], mean_energy(i));
-        let a = m * band_edge(i);
-        let e = m * band_edge(i + 1);
-        scale(&mut bins[a..e], g);
+impl Span {
+    // End at least start and at most 21, and a factor of downsampling.
+    #[tactic(auto, using(std::proofs::lemmas::Bool::Decides::nat_tests), unfolding(crate::specs::Spectrum::span_fits))]
+    pub fn fits(self) -> bool
+        ensures { result ≡ span_fits self.start self.end self.downsample }
+    {
+        self.start <= self.end && self.end <= BANDS && 1 <= self.downsample
     }
 }
 
-// Where the spectrum ends.
-fn bound_of(m: usize, span: Span) -> usize
-    requires { (m ≤ 8) × (span.end ≤ bands) × (1 ≤ span.downsample) }
-    ensures { (result ≡ bound m span.end span.downsample) × (result ≤ m * last_edge) }
-{
-    let edge = m * band_edge(span.end);
-    let part = SHORT_BLOCK * m / span.downsample;
-    if span.downsample != 1 && part < edge {
-        part
-    } else {
-        edge
+// The bands of a span at a block factor.
+#[derive(Clone, Copy)]
+struct Bands {
+    m: usize,
+    span: Span,
+    ghost small: { m ≤ 8 },
+    ghost some: { span.start ≤ span.end },
+    ghost last: { span.end ≤ bands },
+    ghost every: { 1 ≤ span.downsample },
+}
+
+impl Bands {
+    // Each band times its gain. The walk over the bands is that of `noise_shape`: one for both would be public, and ask of
+    // its caller that its closure may be called, where no public function asks anything.
+    #[tactic(auto, using(noise_shape::proofs::Calls::ends))]
+    fn apply_gains(self, bins: &mut [f32], energies: &[f32])
+        requires { (self.m * last_edge ≤ length bins.old) × (length energies.now ≡ max_bands) }
+        ensures { bins.new ≡ fold_range (gain_turn self.m energies.now) bins.old self.span.start self.span.end }
+    {
+        for i in self.span.start..self.span.end {
+            let g = band_gain(energies[i], mean_energy(i));
+            let a = self.m * band_edge(i);
+            let e = self.m * band_edge(i + 1);
+            scale(&mut bins[a..e], g);
+        }
+    }
+
+    // Where the spectrum ends.
+    fn bound(self) -> usize
+        ensures { (result ≡ bound self.m self.span.end self.span.downsample) × (result ≤ self.m * last_edge) }
+    {
+        let edge = self.m * band_edge(self.span.end);
+        let part = SHORT_BLOCK * self.m / self.span.downsample;
+        if self.span.downsample != 1 && part < edge {
+            part
+        } else {
+            edge
+        }
     }
 }
 
-// A block factor of at most 8, end at least start and at most 21, and a factor of downsampling.
-fn spectrum_fits(m: usize, span: Span) -> bool
-    ensures { result ≡ spectrum_fits m span.start span.end span.downsample }
-{
-    m <= FACTOR_MOST && span.start <= span.end && span.end <= BANDS && 1 <= span.downsample
-}
-
-// With so many energies and so many bins lent.
+// A block factor of at most 8, a span that fits, 25 energies, and 120 m bins.
 fn spectrum_takes(m: usize, span: Span, energies: usize, size: usize) -> bool
     ensures { result ≡ spectrum_takes m span.start span.end span.downsample energies size }
 {
-    spectrum_fits(m, span) && energies == MAX_BANDS && size == SHORT_BLOCK * m
+    m <= FACTOR_MOST && span.fits() && energies == MAX_BANDS && size == SHORT_BLOCK * m
 }
 
 // A channel's spectrum from its 25 energies, over 120 m bins, which come as zeros: answers the seed after all draws.
@@ -81,7 +97,8 @@ pub fn noise_spectrum(
         return Err(Refused);
     }
     let after = noise_shape(bins, m, span.start, seed)?;
-    apply_gains(bins, m, span, energies);
-    bins[bound_of(m, span)..].fill(0.0);
+    let drawn = Bands { m, span };
+    drawn.apply_gains(bins, energies);
+    bins[drawn.bound()..].fill(0.0);
     Ok(after)
 }

@@ -24,6 +24,7 @@ pub(crate) fn noise_made(s: State, history: &mut [f32]) -> Made
     );
     let energies = read_energies(coarse, s.background, s.loss_count);
     let seed = noise_loss(k, history, s.seed, energies).unwrap();
+    // a field that is an array goes into the answer by a variable
     let predictor = s.predictor;
     Made {
         kind: Kind::Noise,

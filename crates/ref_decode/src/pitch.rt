@@ -19,6 +19,7 @@ pub(crate) fn pitch_made(s: State, history: &mut [f32]) -> Made
         × (history.new ≡ with_tails history.old (tails_by_pitch s (pitch_made s history.old) (tails history.old))) }
 {
     let first = s.loss_count == 0;
+    // carried, unless this is the first loss
     let mut lag = s.lag;
     let mut predictor = s.predictor;
     if first {
@@ -33,6 +34,7 @@ pub(crate) fn pitch_made(s: State, history: &mut [f32]) -> Made
         filter: s.filter,
     };
     pitch_loss(s.settings, history, pitch).unwrap();
+    // a field that is an array goes into the answer by a variable
     let coarse = s.coarse;
     Made {
         kind: Kind::Pitch,

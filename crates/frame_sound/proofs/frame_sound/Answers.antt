@@ -1,13 +1,47 @@
-use Rattle.std.proofs.Common.{refl, ◌∙◌, sym}
-use Rattle.reply.specs.Reply.{reply-yes, reply-no}
+-- The lengths fit, so neither step refuses what is taken.
+use Rattle.std.proofs.Common.{arith, refl, rules, ◌∙◌, sym}
+use Rattle.reply.specs.Reply.{reply-no}
 use Rattle.frame_sound.proofs.Takes.{takes-each}
+use Rattle.frame_sound.proofs.Frames.{yes, high, mono-sound, stereo-sound}
 use Rattle.frame_sound.proofs.frame_sound.Goals as goal
 
 pub returns-then-not-sound_takes : goal.returns-then-not-sound_takes
 returns-then-not-sound_takes c = reply-no _ _ _ (sym c.sound_takes.ensures ∙ c.if-not-sound_takes.true) refl
 
-pub deemphasise-requires : goal.deemphasise-requires
-deemphasise-requires c = takes-each _ _ _ (sym c.sound_takes.ensures ∙ c.if-not-sound_takes.false)
+pub overflow_sub-first : goal.overflow_sub-first
+overflow_sub-first c =
+    let t = takes-each _ _ _ (sym c.sound_takes.ensures ∙ c.if-not-sound_takes.false) in
+    omega (arith, high c.args.k t.0 c.args.history.now t.1 _ c.frame_size-n.ensures)
 
-pub returns : goal.returns
-returns c = reply-yes _ _ _ (sym c.sound_takes.ensures ∙ c.if-not-sound_takes.false) c.deemphasise.ensures
+pub slice_bounds-first-end : goal.slice_bounds-first-end
+slice_bounds-first-end c =
+    let t = takes-each _ _ _ (sym c.sound_takes.ensures ∙ c.if-not-sound_takes.false) in
+    search rules
+
+pub slice_bounds-deemphasis_stereo-end : goal.slice_bounds-deemphasis_stereo-end
+slice_bounds-deemphasis_stereo-end c =
+    let t = takes-each _ _ _ (sym c.sound_takes.ensures ∙ c.if-not-sound_takes.false) in
+    search rules
+
+pub overflow_sub-last : goal.overflow_sub-last
+overflow_sub-last c =
+    let t = takes-each _ _ _ (sym c.sound_takes.ensures ∙ c.if-not-sound_takes.false) in
+    omega (arith, high c.args.k t.0 c.args.history.now t.1 _ c.frame_size-n.ensures)
+
+pub returns-then-k-eq2 : goal.returns-then-k-eq2
+returns-then-k-eq2 c =
+    let a = c.args in
+    let f = c.frame_size-n in
+    let y = sym c.sound_takes.ensures ∙ c.if-not-sound_takes.false in
+    let t = takes-each _ _ _ y in
+    yes _ _ _ y
+    (stereo-sound a.k t.0 a.history.now t.1 f.result f.ensures a.memories a.pcm.now t.2 c.if-k-eq2.true c.deemphasis_stereo.ensures)
+
+pub returns-else-k-eq2 : goal.returns-else-k-eq2
+returns-else-k-eq2 c =
+    let a = c.args in
+    let f = c.frame_size-n in
+    let y = sym c.sound_takes.ensures ∙ c.if-not-sound_takes.false in
+    let t = takes-each _ _ _ y in
+    yes _ _ _ y
+    (mono-sound a.k t.0 a.history.now t.1 f.result f.ensures a.memories a.pcm.now t.2 c.if-k-eq2.false c.deemphasis_mono.ensures)

@@ -18,13 +18,13 @@ returns-in_err-after c =
     let f = takes c.args.m _ _ _ _ _ (sym c.spectrum_takes.ensures ∙ c.if-not-spectrum_takes.false) in
     absurd (shape-takes _ _ _ _ f.0.small (omega (arith, f)) (omega (arith, f)) c.noise_shape.ensures c.in_err-after.was)
 
+pub invariant_of-drawn : goal.invariant_of-drawn
+invariant_of-drawn c =
+    let f = takes c.args.m _ _ _ _ _ (sym c.spectrum_takes.ensures ∙ c.if-not-spectrum_takes.false) in
+    record { small = f.0.small; some = f.0.some; last = f.0.last; every = f.0.every }
+
 pub apply_gains-requires : goal.apply_gains-requires
 apply_gains-requires c =
-    let f = takes c.args.m _ _ _ _ _ (sym c.spectrum_takes.ensures ∙ c.if-not-spectrum_takes.false) in
-    search rules
-
-pub bound_of-requires : goal.bound_of-requires
-bound_of-requires c =
     let f = takes c.args.m _ _ _ _ _ (sym c.spectrum_takes.ensures ∙ c.if-not-spectrum_takes.false) in
     search rules
 
@@ -38,11 +38,6 @@ slice_bounds-fill-start c =
     let f = takes c.args.m _ _ _ _ _ (sym c.spectrum_takes.ensures ∙ c.if-not-spectrum_takes.false) in
     search rules
 
-pub offset_bounds-bins-bound_of : goal.offset_bounds-bins-bound_of
-offset_bounds-bins-bound_of c =
-    let f = takes c.args.m _ _ _ _ _ (sym c.spectrum_takes.ensures ∙ c.if-not-spectrum_takes.false) in
-    search rules
-
 pub returns : goal.returns
 returns c =
     let a = c.args in
@@ -50,9 +45,9 @@ returns c =
     let f = takes a.m _ _ _ _ _ t in
     let z = shape-left a.m a.span.start a.seed a.bins.now f.0.small (omega (arith, f)) (omega (arith, f)) c.noise_shape.ensures c.in_ok-after.was in
     let g = c.apply_gains.new.bins in
-    let y : c.fill.new.self ≡ replicate (length (take (length g - c.bound_of.result) (drop c.bound_of.result g))) zero32 = search rules in
+    let y : c.fill.new.self ≡ replicate (length (take (length g - c.bound.result) (drop c.bound.result g))) zero32 = search rules in
     reply-yes _ _ _ t
     (ap₂ shaped
-    (spectrum-is a.m a.span.start a.span.end a.span.downsample a.seed c.bound_of.result a.energies.now a.bins.now _ g _
-    z.1 c.apply_gains.ensures c.bound_of.ensures.0 (omega (arith, f)) y)
+    (spectrum-is a.m a.span.start a.span.end a.span.downsample a.seed c.bound.result a.energies.now a.bins.now _ g _
+    z.1 c.apply_gains.ensures c.bound.ensures.0 (omega (arith, f)) y)
     (seed_is a.m a.span.start a.span.end a.span.downsample a.seed _ a.energies.now a.bins.now z.0))

@@ -11,44 +11,44 @@ use Rattle.noise_shape.specs.Shape.{lo}
 use Rattle.noise_shape.proofs.Calls.{begins, ends}
 use Rattle.noise_spectrum.specs.Spectrum.{gain_of_band, gain_turn}
 use Rattle.noise_spectrum.proofs.Laws.{gains_more}
-use Rattle.noise_spectrum.proofs.apply_gains.Goals as goal
+use Rattle.noise_spectrum.proofs.Bands.apply_gains.Goals as goal
 
 pub loop-i-init : goal.loop-i-init
 loop-i-init c = sym (range_none _ _ _ _ (omega arith))
 
 pub overflow_mul-a : goal.overflow_mul-a
-overflow_mul-a c = let v = begins c.args.m c.loop-i.i _ c.band_edge.ensures (omega arith) in search rules
+overflow_mul-a c = let v = begins c.args.self.m c.loop-i.i _ c.band_edge.ensures (omega arith) in search rules
 
 pub overflow_mul-e : goal.overflow_mul-e
 overflow_mul-e c =
-    let v = ends c.args.m c.loop-i.i _ _ c.band_edge.ensures c.band_edge-in-loop-i.ensures (omega arith) in search rules
+    let v = ends c.args.self.m c.loop-i.i _ _ c.band_edge.ensures c.band_edge-in-loop-i.ensures (omega arith) in search rules
 
 pub offset_bounds-bins-a : goal.offset_bounds-bins-a
 offset_bounds-bins-a c =
-    let v = ends c.args.m c.loop-i.i _ _ c.band_edge.ensures c.band_edge-in-loop-i.ensures (omega arith) in search rules
+    let v = ends c.args.self.m c.loop-i.i _ _ c.band_edge.ensures c.band_edge-in-loop-i.ensures (omega arith) in search rules
 
 pub slice_bounds-scale-end : goal.slice_bounds-scale-end
 slice_bounds-scale-end c =
-    let v = ends c.args.m c.loop-i.i _ _ c.band_edge.ensures c.band_edge-in-loop-i.ensures (omega arith) in search rules
+    let v = ends c.args.self.m c.loop-i.i _ _ c.band_edge.ensures c.band_edge-in-loop-i.ensures (omega arith) in search rules
 
 pub loop-i-preserved : goal.loop-i-preserved
 unfolding gain_of_band
 loop-i-preserved c =
     let h = c.loop-i in
     let a = c.args in
-    let m = a.m in
+    let m = a.self.m in
     let s = m * c.band_edge.result in
     let e = m * c.band_edge-in-loop-i.result in
     let es : s ≡ lo m h.i = ap (λ z. m * z) c.band_edge.ensures in
     let ee : e ≡ lo m (h.i + 1) = ap (λ z. m * z) c.band_edge-in-loop-i.ensures in
     let g : c.band_gain-g.result ≡ gain_of_band a.energies.now h.i =
     c.band_gain-g.ensures ∙ ap (λ x. gain_of (add binary32 (get_or a.energies.now h.i nan) x)) c.mean_energy.ensures in
-    gains_more m a.span.start h.i (e - s) s c.band_gain-g.result a.energies.now a.bins.now h.bins c.scale.new.x
+    gains_more m a.self.span.start h.i (e - s) s c.band_gain-g.result a.energies.now a.bins.now h.bins c.scale.new.x
     h.invariant (search rules) es (ap₂ ◌-◌ ee es) g c.scale.ensures
 
 pub returns : goal.returns
 returns c =
     let h = c.loop-i in
     let a = c.args in
-    let e : h.i ≡ a.span.end = omega arith in
-    h.invariant ∙ ap (fold_range (gain_turn a.m a.energies.now) a.bins.now a.span.start) e
+    let e : h.i ≡ a.self.span.end = omega arith in
+    h.invariant ∙ ap (fold_range (gain_turn a.self.m a.energies.now) a.bins.now a.self.span.start) e
