@@ -15,21 +15,24 @@ use reply::Refused;
 
 mod decay;
 
-// Fills e with the last pitch cycle of new's excitation, by the predictor lpc and the samples before new, the most recent first;
+// What a channel is continued from: its newest samples, the lag of their pitch, the predictor fitted to them.
+#[derive(Clone, Copy)]
+pub struct Voice<'a> {
+    pub new: &'a [f32],
+    pub lag: usize,
+    pub lpc: &'a [f32; 24],
+}
+
+// Fills e with the last pitch cycle of the voice's excitation, by the samples before its newest, the most recent first;
 // returns the energy of the history that e stands for.
-// Refused, with e as lent: new not of 1,024 samples, a lag of 0 or above 1,024.
+// Refused, with e as lent: newest not of 1,024 samples, a lag of 0 or above 1,024.
 #[tactic(auto, using(std::proofs::lemmas::Bool::Decides::nat_tests), unfolding(reply::specs::Reply::reply_if, periodic_copy::specs::Copy::cycle_takes))]
-pub fn repeat_cycle(
-    e: &mut [f32],
-    new: &[f32],
-    lag: usize,
-    lpc: &[f32; 24],
-    mem: &[f32; 24],
-) -> Result<f32, Refused>
+pub fn repeat_cycle(e: &mut [f32], voice: Voice, mem: &[f32; 24]) -> Result<f32, Refused>
     ensures { replied result (cycle e.new (value_or zero32 result))
-        ≡ reply_if (cycle_takes (length new.now) lag)
-        (pitch_cycle (length e.old) lpc.now mem.now new.now lag) (cycle e.old zero32) }
+        ≡ reply_if (cycle_takes (length voice.entry.new.now) voice.entry.lag)
+        (pitch_cycle (length e.old) voice.entry.lpc.now mem.now voice.entry.new.now voice.entry.lag) (cycle e.old zero32) }
 {
+    let Voice { new, lag, lpc } = voice;
     let Ok(mut exc) = <[f32; HALF]>::try_from(new) else {
         return Err(Refused);
     };

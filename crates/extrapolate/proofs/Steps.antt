@@ -6,7 +6,6 @@ use Prim.Native.Nat.{ℕ, ◌+◌, ◌-◌, ◌≤◌, ◌<◌}
 use native.Mathlib.Omega.{arith}
 use Rattle.std.proofs.Common.{length, get_or, take, drop, reverse, length-drop, take_all, get_or-drop}
 use Rattle.std.proofs.lemmas.List.{get_or-reverse, length-reverse}
-use Rattle.std.proofs.lemmas.Bool.Decides.{nat_tests}
 use Rattle.loops.specs.Front.{tab, tab-list, tab-same}
 use Rattle.periodic_copy.proofs.Positions.{cycle-takes}
 use lib.Dec.{eqb, leb}
@@ -44,9 +43,10 @@ takes-fits m n lag e =
       lag_high = leb-true lag half q.1;
     }
 
-pub pair-takes : (m0 m1 n0 n1 lag : ℕ) → m0 ≡ m1 → n0 ≡ n1 → extrapolate_takes m0 n0 lag ≡ true → extrapolate_pair_takes m0 m1 n0 n1 lag ≡ true
+pub pair-takes : (m0 m1 n0 n1 lag0 lag1 : ℕ) → m0 ≡ m1 → extrapolate_takes m0 n0 lag0 ≡ true → extrapolate_takes m1 n1 lag1 ≡ true
+    → extrapolate_pair_takes m0 m1 n0 n1 lag0 lag1 ≡ true
 unfolding extrapolate_pair_takes
-pair-takes m0 m1 n0 n1 lag p q r = grind (arith, nat_tests)
+pair-takes m0 m1 n0 n1 lag0 lag1 p q r = simp (eq-eqb m0 m1 p, q, r)
 
 -- the newest 24 turned round
 pub recent_is : (new x y : List Float) (k : ℕ) → length new ≡ half → k ≡ length new - 1000 → x ≡ take k (drop 1000 new) → y ≡ reverse x → y ≡ recent new
@@ -92,23 +92,23 @@ module _ (m : ℕ) (new lpc mem x y z : List Float) (lag : ℕ) (first : Bool) (
   extrapolate_is t h e = guarded-is (reply-lent _ _ _ e (iir-takes h))
 
 -- both channels, filtered side by side
-module _ (m : ℕ) (new0 new1 lpc0 lpc1 mem0 mem1 x0 x1 y0 y1 z0 z1 : List Float) (lag : ℕ) (first : Bool) (s0 s1 : Float)
+module _ (m : ℕ) (new0 new1 lpc0 lpc1 mem0 mem1 x0 x1 y0 y1 z0 z1 : List Float) (lag0 lag1 : ℕ) (first : Bool) (s0 s1 : Float)
     (p0 : mem0 ≡ recent new0) (p1 : mem1 ≡ recent new1) (n : ℕ) (same : m ≡ n)
-    (q0 : (x0 ≡ faded_cycle m (celt_fir lpc0 mem0 new0) lag first) × (s0 ≡ copied_energy new0 lag m))
-    (q1 : (x1 ≡ faded_cycle n (celt_fir lpc1 mem1 new1) lag first) × (s1 ≡ copied_energy new1 lag n))
+    (q0 : (x0 ≡ faded_cycle m (celt_fir lpc0 mem0 new0) lag0 first) × (s0 ≡ copied_energy new0 lag0 m))
+    (q1 : (x1 ≡ faded_cycle n (celt_fir lpc1 mem1 new1) lag1 first) × (s1 ≡ copied_energy new1 lag1 n))
     (g0 : z0 ≡ guarded s0 y0) (g1 : z1 ≡ guarded s1 y1) where
   pub iir-pair-takes : m ≤ longest → iir_pair_takes (length x0) (length x1) ≡ true
   iir-pair-takes h =
-      let l0 : length x0 ≡ m = cycle-length m (celt_fir lpc0 mem0 new0) x0 lag first q0.0 in
-      let l1 : length x1 ≡ n = cycle-length n (celt_fir lpc1 mem1 new1) x1 lag first q1.0 in
+      let l0 : length x0 ≡ m = cycle-length m (celt_fir lpc0 mem0 new0) x0 lag0 first q0.0 in
+      let l1 : length x1 ≡ n = cycle-length n (celt_fir lpc1 mem1 new1) x1 lag1 first q1.0 in
       simp (eq-eqb (length x0) (length x1) (omega arith), le-leb (length x0) longest (omega arith))
 
   pub pair_is : (t : Bool) → m ≤ longest
       → reply t (channels y0 y1)
       ≡ reply_if (iir_pair_takes (length x0) (length x1)) (channels (celt_iir lpc0 mem0 x0) (celt_iir lpc1 mem1 x1)) (channels x0 x1)
-      → channels z0 z1 ≡ channels (extrapolated m new0 lag first lpc0) (extrapolated n new1 lag first lpc1)
+      → channels z0 z1 ≡ channels (extrapolated m new0 lag0 first lpc0) (extrapolated n new1 lag1 first lpc1)
   pair_is t h e =
       let r : channels y0 y1 ≡ channels (celt_iir lpc0 mem0 x0) (celt_iir lpc1 mem1 x1) = reply-lent _ _ _ e (iir-pair-takes h) in
-      let a0 = guarded-is m new0 lpc0 mem0 x0 y0 z0 lag first s0 p0 q0 g0 (ap (λ w. w.first) r) in
-      let a1 = guarded-is n new1 lpc1 mem1 x1 y1 z1 lag first s1 p1 q1 g1 (ap (λ w. w.second) r) in
+      let a0 = guarded-is m new0 lpc0 mem0 x0 y0 z0 lag0 first s0 p0 q0 g0 (ap (λ w. w.first) r) in
+      let a1 = guarded-is n new1 lpc1 mem1 x1 y1 z1 lag1 first s1 p1 q1 g1 (ap (λ w. w.second) r) in
       λ i. channels (a0 i) (a1 i)

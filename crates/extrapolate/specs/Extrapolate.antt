@@ -1,7 +1,8 @@
 -- The newest 1,024 samples continued: excitation, repeated cycle, fade, all-pole filter, guard.
 use Rattle.std.specs.Prelude.{◌≡◌, ℕ, ◌-◌, Bool, cond, ◌&&◌, List, map, get_or, length, eqb, leb, Float}
-use Rattle.std.proofs.Common.{◌∙◌}
+use Rattle.std.proofs.Common.{◌∙◌, arith}
 use Rattle.std.proofs.lemmas.List.{length-map}
+use Rattle.std.proofs.lemmas.Bool.Decides.{nat_tests}
 use Rattle.std.specs.Float.{nan, binary32}
 use Rattle.std.specs.Float.Ieee.{of_bits}
 use Rattle.loops.specs.Front.{tab}
@@ -52,6 +53,11 @@ longest = 1200
 unfoldable pub extrapolate_takes : ℕ → ℕ → ℕ → Bool
 extrapolate_takes m n lag = leb m longest && cycle_takes n lag
 
--- both channels the same
-unfoldable pub extrapolate_pair_takes : ℕ → ℕ → ℕ → ℕ → ℕ → Bool
-extrapolate_pair_takes m0 m1 n0 n1 lag = eqb m0 m1 && (eqb n0 n1 && extrapolate_takes m0 n0 lag)
+-- both channels, as many samples of either, each by its lag
+unfoldable pub extrapolate_pair_takes : ℕ → ℕ → ℕ → ℕ → ℕ → ℕ → Bool
+extrapolate_pair_takes m0 m1 n0 n1 lag0 lag1 = eqb m0 m1 && (extrapolate_takes m0 n0 lag0 && extrapolate_takes m1 n1 lag1)
+
+-- by one lag: as one channel, and the other's lengths the same
+pub pair-one-lag : (m0 m1 n0 n1 lag : ℕ) → extrapolate_pair_takes m0 m1 n0 n1 lag lag ≡ (eqb m0 m1 && (eqb n0 n1 && extrapolate_takes m0 n0 lag))
+unfolding extrapolate_pair_takes extrapolate_takes cycle_takes
+pair-one-lag m0 m1 n0 n1 lag = grind (arith, nat_tests)

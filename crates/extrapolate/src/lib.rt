@@ -11,7 +11,7 @@ ghost use Rattle.periodic_copy.specs.Copy.{copied_energy};
 ghost use Rattle.extrapolate.specs.Extrapolate.{fade, recent, faded_cycle, extrapolated, extrapolate_takes, extrapolate_pair_takes};
 
 use energy_guard::energy_guard;
-use excitation::repeat_cycle;
+use excitation::{Voice, repeat_cycle};
 use history::{EXTRA, HALF, LONGEST_FRAME};
 use plc_iir::celt_iir_inplace;
 use plc_iir_pair::celt_iir_pair;
@@ -22,6 +22,7 @@ pub const ORDER: usize = plc_pad::ORDER;
 
 pub const LONGEST: usize = LONGEST_FRAME + EXTRA;
 
+// `first` answers a question, whether the loss before was none: a bool, since a caller has it as a comparison, `loss_count == 0`.
 #[tactic(auto, unfolding(crate::specs::Extrapolate::fade))]
 fn fade_of(first: bool) -> f32
     ensures { result ≡ fade first }
@@ -41,77 +42,64 @@ fn most_recent(new: &[f32]) -> [f32; 24]
 }
 
 // Fills e with the filter's input, the faded cycle; returns the filter's memory, and the energy of the history that the cycle stands for.
-fn filter_input(
-    e: &mut [f32],
-    new: &[f32],
-    lag: usize,
-    first: bool,
-    lpc: &[f32; 24],
-) -> ([f32; 24], f32)
-    requires { (length new.now ≡ half) × (0 < lag) × (lag ≤ half) }
-    ensures { (result.0 ≡ recent new.now)
-        × (e.new ≡ faded_cycle (length e.old) (celt_fir lpc.now result.0 new.now) lag first)
-        × (result.1 ≡ copied_energy new.now lag (length e.old)) }
+fn filter_input(e: &mut [f32], voice: Voice, first: bool) -> ([f32; 24], f32)
+    requires { (length voice.new.now ≡ half) × (0 < voice.lag) × (voice.lag ≤ half) }
+    ensures { (result.0 ≡ recent voice.entry.new.now)
+        × (e.new
+        ≡ faded_cycle (length e.old) (celt_fir voice.entry.lpc.now result.0 voice.entry.new.now) voice.entry.lag first)
+        × (result.1 ≡ copied_energy voice.entry.new.now voice.entry.lag (length e.old)) }
 {
-    let mem = most_recent(new);
-    let energy = repeat_cycle(e, new, lag, lpc, &mem).unwrap();
+    let mem = most_recent(voice.new);
+    let energy = repeat_cycle(e, voice, &mem).unwrap();
     buffers::scale(e, fade_of(first));
     (mem, energy)
 }
 
 #[tactic(auto, using(std::proofs::lemmas::Bool::Decides::nat_tests), unfolding(crate::specs::Extrapolate::extrapolate_takes, periodic_copy::specs::Copy::cycle_takes))]
-fn takes(m: usize, n: usize, lag: usize) -> bool
-    ensures { result ≡ extrapolate_takes m n lag }
+fn takes(m: usize, voice: Voice) -> bool
+    ensures { result ≡ extrapolate_takes m (length voice.entry.new.now) voice.entry.lag }
 {
-    m <= LONGEST && n == HALF && (1..=HALF).contains(&lag)
+    m <= LONGEST && voice.new.len() == HALF && (1..=HALF).contains(&voice.lag)
 }
 
-// Fills e with what follows new. Refused, with e as lent: e above 1,200 samples, new not of 1,024, a lag of 0 or above 1,024.
-pub fn extrapolate(
-    e: &mut [f32],
-    new: &[f32],
-    lag: usize,
-    first: bool,
-    lpc: &[f32; 24],
-) -> Result<(), Refused>
+// Fills e with what follows the voice. Refused, with e as lent: e above 1,200 samples, newest not of 1,024, a lag of 0 or above 1,024.
+pub fn extrapolate(e: &mut [f32], voice: Voice, first: bool) -> Result<(), Refused>
     ensures { replied result e.new
-        ≡ reply_if (extrapolate_takes (length e.old) (length new.now) lag)
-        (extrapolated (length e.old) new.now lag first lpc.now) e.old }
+        ≡ reply_if (extrapolate_takes (length e.old) (length voice.entry.new.now) voice.entry.lag)
+        (extrapolated (length e.old) voice.entry.new.now voice.entry.lag first voice.entry.lpc.now) e.old }
 {
-    if !takes(e.len(), new.len(), lag) {
+    if !takes(e.len(), voice) {
         return Err(Refused);
     }
-    let (mem, energy) = filter_input(e, new, lag, first, lpc);
-    celt_iir_inplace(e, lpc, &mem)?;
+    let (mem, energy) = filter_input(e, voice, first);
+    celt_iir_inplace(e, voice.lpc, &mem)?;
     energy_guard(e, energy);
     Ok(())
 }
 
 // Both channels: their all-pole filters run side by side, in the time of one.
-// Refused as a single channel is, and where the two differ in length.
+// Refused where a single channel is, and where e0 and e1 differ in length.
 #[tactic(auto, using(std::proofs::lemmas::Bool::Decides::nat_tests), unfolding(reply::specs::Reply::reply_if, crate::specs::Extrapolate::extrapolate_pair_takes))]
 pub fn extrapolate_pair(
     e0: &mut [f32],
     e1: &mut [f32],
-    new0: &[f32],
-    new1: &[f32],
-    lag: usize,
+    voice0: Voice,
+    voice1: Voice,
     first: bool,
-    lpc0: &[f32; 24],
-    lpc1: &[f32; 24],
 ) -> Result<(), Refused>
     ensures { replied result (channels e0.new e1.new)
-        ≡ reply_if (extrapolate_pair_takes (length e0.old) (length e1.old) (length new0.now) (length new1.now) lag)
-        (channels (extrapolated (length e0.old) new0.now lag first lpc0.now)
-        (extrapolated (length e1.old) new1.now lag first lpc1.now))
+        ≡ reply_if
+        (extrapolate_pair_takes (length e0.old) (length e1.old) (length voice0.entry.new.now) (length voice1.entry.new.now) voice0.entry.lag voice1.entry.lag)
+        (channels (extrapolated (length e0.old) voice0.entry.new.now voice0.entry.lag first voice0.entry.lpc.now)
+        (extrapolated (length e1.old) voice1.entry.new.now voice1.entry.lag first voice1.entry.lpc.now))
         (channels e0.old e1.old) }
 {
-    if e0.len() != e1.len() || new0.len() != new1.len() || !takes(e0.len(), new0.len(), lag) {
+    if e0.len() != e1.len() || !takes(e0.len(), voice0) || !takes(e1.len(), voice1) {
         return Err(Refused);
     }
-    let (mem0, s0) = filter_input(e0, new0, lag, first, lpc0);
-    let (mem1, s1) = filter_input(e1, new1, lag, first, lpc1);
-    celt_iir_pair(e0, e1, lpc0, lpc1, &mem0, &mem1)?;
+    let (mem0, s0) = filter_input(e0, voice0, first);
+    let (mem1, s1) = filter_input(e1, voice1, first);
+    celt_iir_pair(e0, e1, voice0.lpc, voice1.lpc, &mem0, &mem1)?;
     energy_guard(e0, s0);
     energy_guard(e1, s1);
     Ok(())

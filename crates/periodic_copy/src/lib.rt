@@ -39,6 +39,7 @@ impl Place {
 
 // Fills e with the last cycle of exc, repeated, the decay squared at each wrap; returns the energy of new at the same positions.
 // Refused, with e as lent: new not of 1,024 samples, a lag of 0 or above 1,024.
+// Samples and lag apart, since a copy goes by no predictor.
 #[tactic(auto, using(std::proofs::lemmas::Bool::Decides::nat_tests), unfolding(reply::specs::Reply::reply_if, crate::specs::Copy::cycle_takes))]
 pub fn periodic_copy(
     e: &mut [f32],

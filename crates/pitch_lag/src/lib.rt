@@ -27,6 +27,7 @@ fn low_pass(two: bool, history: &[f32]) -> [f32; HALF]
 }
 
 // The lag of a history, of two channels or one. Refused: a history not of 4,336 samples.
+// `two` answers a question: a bool, since a caller has it as a comparison, `channels == 2`.
 pub fn find_lag(two: bool, history: &[f32]) -> Result<u32, Refused>
     ensures { result ≡ ok_if (eqb (length history.now) whole) (lag_of two history.now) }
 {

@@ -101,16 +101,17 @@ module _ (n lag : ℕ) (first : Bool) (h c : List Float) (ln : n ≤ longest_fra
 
   pub both-take : (e₀ d₀ : List Float) → length e₀ ≡ longest → length d₀ ≡ longest
       → extrapolate_pair_takes (length (take (n + extra) e₀)) (length (take (n + extra) d₀)) (length (take half (drop half h)))
-      (length (take half (drop (channel + half) h))) lag
+      (length (take half (drop (channel + half) h))) lag lag
       ≡ true
   both-take e₀ d₀ l m =
-      pair-takes _ _ _ _ lag (front-size n e₀ ln l ∙ sym (front-size n d₀ ln m)) (first-size ∙ sym second-size) (one-takes e₀ l)
+      pair-takes _ _ _ _ lag lag (front-size n e₀ ln l ∙ sym (front-size n d₀ ln m)) (one-takes e₀ l) (taken _ _ (front-size n d₀ ln m) second-size)
 
   pub both_follow : (e₀ d₀ e d c₀ k₀ : List Float) (b : Bool) → length c ≡ order + order → length e₀ ≡ longest → length d₀ ≡ longest
       → c₀ ≡ take order c → k₀ ≡ take order (drop order c)
       → reply b (channels e d)
       ≡ reply_if
-      (extrapolate_pair_takes (length (take (n + extra) e₀)) (length (take (n + extra) d₀)) (length (take half (drop half h))) (length (take half (drop (channel + half) h))) lag)
+      (extrapolate_pair_takes (length (take (n + extra) e₀)) (length (take (n + extra) d₀)) (length (take half (drop half h)))
+      (length (take half (drop (channel + half) h))) lag lag)
       (channels (extrapolated (length (take (n + extra) e₀)) (take half (drop half h)) lag first c₀)
       (extrapolated (length (take (n + extra) d₀)) (take half (drop (channel + half) h)) lag first k₀))
       (channels (take (n + extra) e₀) (take (n + extra) d₀))

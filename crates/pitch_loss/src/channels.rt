@@ -9,6 +9,7 @@ ghost use Rattle.take_in.specs.TakeIn.{longest_frame, extra, tail_after};
 ghost use Rattle.pitch_loss.specs.PitchLoss.{pitch_tails};
 
 use crate::Pitch;
+use excitation::Voice;
 use extrapolate::{LONGEST, ORDER, extrapolate, extrapolate_pair};
 use history::{CHANNEL, EXTRA, HALF, SAMPLES, TAIL};
 use take_in::take_in;
@@ -47,15 +48,21 @@ impl Loss {
             ≡ extrapolated (self.n + extra) (tails h.now).second.new self.pitch.lag self.pitch.first (drop order self.pitch.predictor)) }
     {
         let m = self.n + EXTRA;
+        let lag = self.pitch.lag as usize;
         extrapolate_pair(
             &mut e0[..m],
             &mut e1[..m],
-            &h[HALF..SAMPLES],
-            &h[SECOND..END],
-            self.pitch.lag as usize,
+            Voice {
+                new: &h[HALF..SAMPLES],
+                lag,
+                lpc: &coefficients(self.pitch.predictor, 0),
+            },
+            Voice {
+                new: &h[SECOND..END],
+                lag,
+                lpc: &coefficients(self.pitch.predictor, ORDER),
+            },
             self.pitch.first,
-            &coefficients(self.pitch.predictor, 0),
-            &coefficients(self.pitch.predictor, ORDER),
         )
         .unwrap();
     }
@@ -77,7 +84,7 @@ impl Loss {
         .unwrap();
     }
 
-    // Mono runs the single filter, stereo the pair.
+    // Mono runs the single filter, stereo the pair. Apart: one function would ask twice which it is, and clear a second buffer for mono.
     pub(crate) fn conceal_mono(self, history: &mut [f32])
         requires { length history.old ≡ whole }
         ensures { history.new
@@ -87,10 +94,12 @@ impl Loss {
         let mut e = [0.0; LONGEST];
         extrapolate(
             &mut e[..self.n + EXTRA],
-            &history[HALF..SAMPLES],
-            self.pitch.lag as usize,
+            Voice {
+                new: &history[HALF..SAMPLES],
+                lag: self.pitch.lag as usize,
+                lpc: &coefficients(self.pitch.predictor, 0),
+            },
             self.pitch.first,
-            &coefficients(self.pitch.predictor, 0),
         )
         .unwrap();
         self.take_at(history, HALF, &e);

@@ -12,18 +12,20 @@ filter_input-energy-requires c = let f = takes-fits _ _ _ (sym c.if-not-takes.en
 pub returns-in_err-celt_iir_inplace : goal.returns-in_err-celt_iir_inplace
 returns-in_err-celt_iir_inplace c =
     let a = c.args in
+    let v = c.args.voice in
     let x = c.filter_input-energy in
     let no : false ≡ true = reply-taken _ _ _ c.in_err-celt_iir_inplace.ensures
-    ∙ iir-takes (length a.e.now) a.new.now a.lpc.now x.result.0 _ c.celt_iir_inplace.new.buf _ a.lag a.first _ x.ensures.0 (x.ensures.1, x.ensures.2) refl
+    ∙ iir-takes (length a.e.now) v.new.now v.lpc.now x.result.0 _ c.celt_iir_inplace.new.buf _ v.lag a.first _ x.ensures.0 (x.ensures.1, x.ensures.2) refl
     (takes-fits _ _ _ (sym c.if-not-takes.ensures)).room in
     cc
 
 pub returns : goal.returns
 returns c =
     let a = c.args in
+    let v = c.args.voice in
     let x = c.filter_input-energy in
     reply-yes _ _ _ (sym c.if-not-takes.ensures)
-    (extrapolate_is (length a.e.now) a.new.now a.lpc.now x.result.0 _ _ _ a.lag a.first _ x.ensures.0 (x.ensures.1, x.ensures.2)
+    (extrapolate_is (length a.e.now) v.new.now v.lpc.now x.result.0 _ _ _ v.lag a.first _ x.ensures.0 (x.ensures.1, x.ensures.2)
     c.energy_guard.ensures.1
     _
     (takes-fits _ _ _ (sym c.if-not-takes.ensures)).room
