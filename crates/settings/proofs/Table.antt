@@ -1,9 +1,9 @@
 -- The code's way to each number of the table.
-use Rattle.std.proofs.Common.{◌≡◌, ap, ◌∙◌, arith, Err}
+use Rattle.std.proofs.Common.{◌≡◌, refl, ap, ◌∙◌, arith, Ok, Err}
 use Rattle.std.specs.Prelude.{Result}
-use Rattle.std.specs.Result.{IsErrAnd}
+use Rattle.std.specs.Result.{IsErrAnd, result_and}
 use Rattle.std.proofs.lemmas.Result.{err_from_is_err_and}
-use Rattle.settings.specs.Number.{number_of, number_in}
+use Rattle.settings.specs.Number.{number_of, number_in, or_else}
 use Rattle.settings.specs.declared.Refusal.{Refusal}
 use Rattle.settings.specs.declared.Refusal.TheVariants.{BadLm, BadChannels, BadStart, BadEnd, BadDownsample, CountFull, BadLag, BadFilter, BadHistory, ShortPcm}
 
@@ -26,3 +26,18 @@ number_low BadLag h = omega arith
 number_low BadFilter h = omega arith
 number_low BadHistory h = omega arith
 number_low ShortPcm h = omega arith
+
+-- two results joined by `and` have the number that the table's join gives
+pub and_number : {A B : Type 0} (a : Result A Refusal) (b : Result B Refusal) → number_in (result_and a b) ≡ or_else (number_in a) (number_in b)
+unfolding or_else
+and_number (Ok x) b = refl
+and_number (Err BadLm) b = refl
+and_number (Err BadChannels) b = refl
+and_number (Err BadStart) b = refl
+and_number (Err BadEnd) b = refl
+and_number (Err BadDownsample) b = refl
+and_number (Err CountFull) b = refl
+and_number (Err BadLag) b = refl
+and_number (Err BadFilter) b = refl
+and_number (Err BadHistory) b = refl
+and_number (Err ShortPcm) b = refl
