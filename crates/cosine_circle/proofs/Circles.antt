@@ -15,8 +15,8 @@ pub circle_none : (n : ℕ) → is_frame_size n ≡ false → no_cosines ≡ cir
 unfolding circle_of
 circle_none n e = sym (pick-false (is_frame_size n) _ no_cosines e)
 
-pub circle_some : (n i : ℕ) (r : List Float) → is_frame_size n ≡ true → r ≡ front (tab (λ (i : ℕ). cos_at (960 / n * (2 * i + 1))) i) no_cosines i → i ≡ 4 * n
-    → r ≡ circle_of n
+pub circle_some : (n i : ℕ) (r : List Float) → is_frame_size n ≡ true
+    → r ≡ front (tab (λ (i : ℕ). cos_at (960 / n * (2 * i + 1))) i) no_cosines i → i ≡ 4 * n → r ≡ circle_of n
 unfolding circle_of
 circle_some n i r e h q =
     let f : ℕ → Float = λ (i : ℕ). cos_at (960 / n * (2 * i + 1)) in

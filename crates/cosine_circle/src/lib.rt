@@ -24,7 +24,7 @@ pub fn is_frame_size(n: usize) -> bool
     }
 }
 
-// The cosine of j parts of a circle of 7,680.
+// The cosine of j parts of a circle of 7,680. One function reads the table, and says once what it is.
 fn cos_at(c: &[f64; 1921], j: usize) -> f64
     requires c_value { c.now ≡ cosines }
     requires j_bound { j ≤ 7680 }

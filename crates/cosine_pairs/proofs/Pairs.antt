@@ -128,7 +128,8 @@ quarter-more n r p was b v w z h g l e f i =
     let at : ℕ → Float = λ (j : ℕ). pair_at n (2 * (n * r) + j) in
     let t : 2 * p + 1 + 1 ≡ 2 * (p + 1) = omega arith in
     let k : a + 2 * p + 1 < length was = omega (arith, room n r h) in
-    rest_more at nan was _ a (2 * p + 1) (rest_more at nan was b a (2 * p) e v (pair_is n p z r v f) (omega arith)) w (pair-behind n p z r w i) (omega arith)
+    rest_more at nan was _ a (2 * p + 1) (rest_more at nan was b a (2 * p) e v (pair_is n p z r v f) (omega arith))
+    w (pair-behind n p z r w i) (omega arith)
     ∙ ap (λ y. front (take a was ++ tab at y) was (a + y)) t
 
 -- the pairs of the first r quarters, and a quarter more

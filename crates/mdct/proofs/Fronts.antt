@@ -32,8 +32,8 @@ unfolding front tab
 rest-none f xs t =
     sym (take-append-drop t xs) ∙ ap (λ z. take t xs ++ drop z xs) (sym (add-zero t)) ∙ ap (λ z. z ++ drop (t + 0) xs) (sym (append-nil (take t xs)))
 
-pub rest_more : {A : Type 0} (f : ℕ → A) (d : A) (xs b : List A) (t j : ℕ) → b ≡ front (take t xs ++ tab f j) xs (t + j) → (v : A) → v ≡ f j → t + j < length xs
-    → set b (t + j) v ≡ front (take t xs ++ tab f (j + 1)) xs (t + (j + 1))
+pub rest_more : {A : Type 0} (f : ℕ → A) (d : A) (xs b : List A) (t j : ℕ) → b ≡ front (take t xs ++ tab f j) xs (t + j)
+    → (v : A) → v ≡ f j → t + j < length xs → set b (t + j) v ≡ front (take t xs ++ tab f (j + 1)) xs (t + (j + 1))
 unfolding tab
 rest_more f d xs b t j e v q h =
     let l : length (take t xs ++ tab f j) ≡ t + j =

@@ -61,6 +61,7 @@ takes_fits n m e = let p = and-true (is_frame_size n) (eqb m (2 * n)) e in (p.0,
 unfoldable pub imdct_reply : List Float → List Float → Reply (List Float)
 imdct_reply xs out = reply_if (imdct_takes (length xs) (length out)) (imdct (length xs) xs) out
 
-pub reply_outputs : (xs out : List Float) {t : Bool} {y : List Float} → reply t y ≡ imdct_reply xs out → imdct_takes (length xs) (length out) ≡ true → y ≡ imdct (length xs) xs
+pub reply_outputs : (xs out : List Float) {t : Bool} {y : List Float} → reply t y ≡ imdct_reply xs out
+    → imdct_takes (length xs) (length out) ≡ true → y ≡ imdct (length xs) xs
 unfolding imdct_reply
 reply_outputs xs out e h = reply-lent _ _ _ e h

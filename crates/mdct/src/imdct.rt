@@ -20,6 +20,7 @@ pub fn wrapped(i: usize, w: usize) -> usize
 }
 
 // Eight places on a circle of w steps, from first on, by steps further each.
+// It asks for bounds, as no pub fn does: `mdct_pairs` makes its first places by itself.
 fn along(first: usize, by: usize, w: usize) -> [usize; 8]
     requires { (first < 8000) × (by ≤ 2) × (0 < w) }
     ensures { result ≡ tab (λ j. (first + by * j) % w) 8 }

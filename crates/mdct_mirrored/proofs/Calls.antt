@@ -2,20 +2,37 @@
 use mathlib.Core.Path.{◌≡◌, ap, ap₂, ◌∙◌, sym}
 use mathlib.Core.List.{List}
 use mathlib.Core.Bool.{Bool, true}
-use Prim.Native.Nat.{ℕ, ◌*◌}
-use lib.ListN.{length}
-use lib.Ieee.{Float}
+use Prim.Native.Nat.{ℕ, ◌*◌, ◌%◌, ◌≤◌}
+use lib.ListN.{length, take, replicate}
+use lib.Ieee.{Float, binary64, of_bits}
 use borrow.Author.Tests.{eq-eqb}
 use Rattle.loops.specs.Logic.{and_both}
 use Rattle.std.specs.Prelude.{Result, Ok, Err, is_ok}
 use Rattle.reply.specs.declared.Refused.{Refused}
 use Rattle.reply.specs.Reply.{reply, replied, value_or, reply-lent, reply-taken, reply-yes}
 use Rattle.cosine_circle.specs.Circle.{is_frame_size}
-use Rattle.mdct.specs.Imdct.{imdct, imdct_takes, takes-frame}
+use Rattle.cosine_circle.proofs.Sizes.{sized, even, few}
+use Rattle.mdct.specs.Imdct.{imdct, imdct_takes, takes-frame, takes_fits}
 use Rattle.mdct_work.specs.Work.{total, pair_sums, values}
+use Rattle.mdct_pairs.proofs.Lent.{lent-count}
 use Rattle.mdct_pairs.specs.Pairs.{pair_takes, pair_reply, summed, Sums}
 use Rattle.mdct_mirrored.proofs.Same.{mirrored-same}
 use Rattle.mdct_mirrored.specs.Mirrored.{Transform, mirrored_outputs, mirrored, transformed, mirrored_reply}
+
+-- n inputs that are taken: their sums have room within a frame's, and come back as many, an even number
+module _ (n m : ℕ) (t : imdct_takes n m ≡ true) where
+  pub few-in : n ≤ 960
+  few-in = few n (takes_fits n m t).0
+
+  pub lent-in : n ≡ length (take n (replicate 960 (of_bits binary64 0)))
+  lent-in = lent-count (of_bits binary64 0) n 960 few-in
+
+  module _ (y : List Float) (e : length y ≡ length (take n (replicate 960 (of_bits binary64 0)))) where
+    pub back-even : length y % 2 ≡ 0
+    back-even = ap (λ z. z % 2) (e ∙ sym lent-in) ∙ even n (sized n (takes_fits n m t).0)
+
+    pub back-room : m ≡ 2 * length y
+    back-room = (takes_fits n m t).1 ∙ ap (λ z. 2 * z) (sym (e ∙ sym lent-in))
 
 -- pair_sums takes a frame's inputs and as much room
 module _ (xs was : List Float) (f : is_frame_size (length xs) ≡ true) (l : length was ≡ length xs) where
@@ -48,7 +65,7 @@ module _ (xs out : List Float) where
   mirrored-taken f l q e = let t = sym (ap is_ok e) ∙ reply-taken _ _ _ q ∙ takes-frame _ _ f l in (cc)
 
   -- whoever calls it gets the direct sum's outputs
-  pub reply-same : (y : List Float) (p : ℕ) (took : Bool) → is_frame_size (length xs) ≡ true → length out ≡ 2 * length xs → reply took (transformed y p) ≡ mirrored_reply xs out
-      → y ≡ imdct (length xs) xs
+  pub reply-same : (y : List Float) (p : ℕ) (took : Bool) → is_frame_size (length xs) ≡ true → length out ≡ 2 * length xs
+      → reply took (transformed y p) ≡ mirrored_reply xs out → y ≡ imdct (length xs) xs
   unfolding mirrored_reply
   reply-same y p took f l e = ap (λ (z : Transform). z.outputs) (reply-lent _ _ _ e (takes-frame _ _ f l)) ∙ mirrored-same (length xs) xs f

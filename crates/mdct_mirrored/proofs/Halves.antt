@@ -32,7 +32,10 @@ module _ (n : ℕ) (sums : List Float) where
 
   pub length_outputs : length (mirrored_outputs n sums) ≡ 2 * n
   unfolding mirrored_outputs
-  length_outputs = omega (arith, length-append (tab (odd_at n sums) n) (tab (even_at n sums) n), length-tab (odd_at n sums) n, length-tab (even_at n sums) n)
+  length_outputs =
+      let o = tab (odd_at n sums) n in
+      let e = tab (even_at n sums) n in
+      omega (arith, length-append o e, length-tab (odd_at n sums) n, length-tab (even_at n sums) n)
 
   module _ (t : ℕ) (r : Float) where
     pub in-first : t < n → r ≡ odd_at n sums t → r ≡ get_or (mirrored_outputs n sums) t nan

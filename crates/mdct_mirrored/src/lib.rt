@@ -20,6 +20,7 @@ struct Half<'a> {
     ghost even: { length sums.now % 2 ≡ 0 },
 }
 
+// Two functions for the two halves: one for both would take the place in the pair and the sign beside u.
 impl Half<'_> {
     // Output u of the first half, odd about its middle: past it, the mirrored sum with its sign turned.
     fn odd_output(self, u: usize) -> f32

@@ -3,7 +3,7 @@ use mathlib.Core.Path.{◌≡◌, refl, ap, ◌∙◌, sym}
 use mathlib.Core.List.{List, ◌∷◌, ◌++◌}
 use Prim.Native.Nat.{ℕ, zero, suc, ◌≤◌}
 use native.Mathlib.Omega.{arith}
-use lib.ListN.{length, take, drop, replicate, length-append, length-replicate}
+use lib.ListN.{length, take, drop, replicate, length-replicate}
 use lib.Seq.{length-take-le, take_at}
 
 pub lent-values : {A : Type 0} (v : A) (k n : ℕ) → k ≤ n → take k (replicate n v) ≡ replicate k v
@@ -21,9 +21,3 @@ module _ {A : Type 0} (v : A) (k n : ℕ) (h : k ≤ n) where
 
     pub back_is : take k (y ++ drop k (replicate n v)) ≡ y
     back_is = take_at y (drop k (replicate n v)) k back-size
-
-    pub back_in : k ≤ length (y ++ drop k (replicate n v))
-    back_in = omega (arith, length-append y (drop k (replicate n v)), back-size)
-
-    pub back_count : k ≡ length (take k (y ++ drop k (replicate n v)))
-    back_count = sym (ap length back_is ∙ back-size)

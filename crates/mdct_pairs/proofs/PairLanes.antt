@@ -7,7 +7,7 @@ use native.Mathlib.Omega.{arith}
 use native.Mathlib.Nat.{mod-add-mod, mod-lt, mod-eq_of_lt, mul_comm, mul_assoc, div-add-mod', add-mul-mod_self_right}
 use lib.ListN.{length, get_or, replicate}
 use lib.Ieee.{Float, nan, binary64, of_bits, add, mul}
-use Rattle.loops.specs.Front.{tab, tab-same, get_or-tab, length-tab}
+use Rattle.loops.specs.Front.{tab, tab-same, get_or-tab}
 use Rattle.loops.specs.Sum.{sum_to, sum-none, sum_more}
 use Rattle.cosine_circle.proofs.Sizes.{Size, even, at_least, at_most}
 use Rattle.mdct.specs.Imdct.{imdct_term}
@@ -72,9 +72,6 @@ module _ (n t : ℕ) (z : Size n) (room : 2 * t + 8 ≤ n) where
     at-is : (j : ℕ) → j < 4 → get_or at j 0 ≡ 2 * p j
     at-is j h = ap (λ y. get_or y j 0) a ∙ get_or-tab (λ (i : ℕ). 2 * p i) 4 j 0 h
 
-    pub at_count : length at ≡ 4
-    at_count = ap length a ∙ length-tab (λ (j : ℕ). 2 * p j) 4
-
     pub on-table : ((j : ℕ) → j < 4 → p j < 6 * n) → (j : ℕ) → j < 4 → get_or at j 0 + 2 ≤ 12 * n
     on-table b j h = omega (arith, at-is j h, b j h)
 
@@ -94,14 +91,17 @@ module _ (n t : ℕ) (z : Size n) (room : 2 * t + 8 ≤ n) where
         let w : 8 * n ≡ 2 * (4 * n) = omega arith in
         ap₂ ◌%◌ (at-is j h) w ∙ twice-around (p j) (4 * n) (omega (arith, some)) ∙ ap (λ y. 2 * y) (e j h))
 
-    module _ (xs : List Float) (l : length xs ≡ n) (g : k < n) (b : (j : ℕ) → j < 4 → p j < 6 * n) (q : (j : ℕ) → j < 4 → p j % (4 * n) ≡ places n t k j) where
+    module _ (xs : List Float) (l : length xs ≡ n) (g : k < n) (b : (j : ℕ) → j < 4 → p j < 6 * n)
+        (q : (j : ℕ) → j < 4 → p j % (4 * n) ≡ places n t k j) where
       term : (i e : ℕ) → i ≡ 2 * k → e < 8
-          → mul binary64 (get_or (inputs_of xs) (i + e % 2) nan) (get_or (pairs_of n) (get_or at (e / 2) 0 + e % 2) nan) ≡ imdct_term n xs (output_of n t e) k
+          → mul binary64 (get_or (inputs_of xs) (i + e % 2) nan) (get_or (pairs_of n) (get_or at (e / 2) 0 + e % 2) nan)
+          ≡ imdct_term n xs (output_of n t e) k
       unfolding inputs_of pairs_of
       term i e f h =
           let j = e / 2 in
           let jh : j < 4 = omega arith in
-          let s : get_or (tab (input_at xs) (2 * length xs)) (i + e % 2) nan ≡ input_at xs (i + e % 2) = get_or-tab (input_at xs) (2 * length xs) (i + e % 2) nan (omega arith) in
+          let s : get_or (tab (input_at xs) (2 * length xs)) (i + e % 2) nan ≡ input_at xs (i + e % 2) =
+          get_or-tab (input_at xs) (2 * length xs) (i + e % 2) nan (omega arith) in
           let r : get_or (tab (pair_at n) (12 * n)) (get_or at j 0 + e % 2) nan ≡ pair_at n (get_or at j 0 + e % 2) =
           get_or-tab (pair_at n) (12 * n) (get_or at j 0 + e % 2) nan (omega (arith, at-is j jh, b j jh)) in
           ap₂ (mul binary64) s r
@@ -114,8 +114,11 @@ module _ (n t : ℕ) (z : Size n) (room : 2 * t + 8 ≤ n) where
           far-term n z (t + j) k (p j) (q j jh) xs _ _ (omega arith) (omega (arith, at-is j jh)) ∙ ap (λ y. imdct_term n xs y k) (omega arith))
           (either (e % 2) 0)
 
-      pub sums-more : (i : ℕ) (inputs pairs acc to : List Float) → i ≡ 2 * k → inputs ≡ inputs_of xs → pairs ≡ pairs_of n → acc ≡ tab (sums n xs t k) 8
-          → to ≡ tab (λ (e : ℕ). add binary64 (get_or acc e nan) (mul binary64 (get_or inputs (i + e % 2) nan) (get_or pairs (get_or at (e / 2) 0 + e % 2) nan))) 8
+      pub sums-more : (i : ℕ) (inputs pairs acc to : List Float) → i ≡ 2 * k → inputs ≡ inputs_of xs → pairs ≡ pairs_of n
+          → acc ≡ tab (sums n xs t k) 8
+          → to
+          ≡ tab (λ (e : ℕ). add binary64 (get_or acc e nan)
+          (mul binary64 (get_or inputs (i + e % 2) nan) (get_or pairs (get_or at (e / 2) 0 + e % 2) nan))) 8
           → to ≡ tab (sums n xs t (k + 1)) 8
       sums-more i inputs pairs acc to f u v c d =
           d

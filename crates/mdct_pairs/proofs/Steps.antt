@@ -44,7 +44,8 @@ module _ (n : ℕ) (z : Size n) where
       let r = i % (4 * n) in
       let split : r + q * (4 * n) ≡ i = omega (arith, div-add-mod' i (4 * n)) in
       let turns : q * (4 * n) * (960 / n) ≡ q * 3840 = mul_assoc q (4 * n) (960 / n) ∙ ap (λ y. q * y) (quarters 4) in
-      let e : 960 / n * (2 * i + 1) ≡ 960 / n * (2 * r + 1) + 2 * (q * 3840) = ap (λ y. 960 / n * (2 * y + 1)) (sym split) ∙ further r (q * (4 * n)) (q * 3840) turns in
+      let e : 960 / n * (2 * i + 1) ≡ 960 / n * (2 * r + 1) + 2 * (q * 3840) =
+      ap (λ y. 960 / n * (2 * y + 1)) (sym split) ∙ further r (q * (4 * n)) (q * 3840) turns in
       ap cos_at (omega arith)
 
   -- half the circle on
@@ -119,6 +120,7 @@ module _ (n : ℕ) (z : Size n) where
             ap₂ (mul binary64) (plain xs i k (omega arith) (omega arith)) (far-even (omega arith)))
             (λ h.
             let q : i ≡ 3 + 4 * (k / 2) = omega arith in
-            ap (λ y. mul binary64 y (step_cos n (p + n))) (signed xs i k (omega arith) (omega arith)) ∙ mul-both binary64 (get_or xs k nan) (step_cos n (p + n))
+            ap (λ y. mul binary64 y (step_cos n (p + n))) (signed xs i k (omega arith) (omega arith))
+            ∙ mul-both binary64 (get_or xs k nan) (step_cos n (p + n))
             ∙ ap (mul binary64 (get_or xs k nan)) (far-odd (omega arith)))
             (either (k % 2) 0)

@@ -12,8 +12,9 @@ use Rattle.cosine_circle.proofs.Sizes.{Size, sized, few}
 use Rattle.mdct.specs.Imdct.{imdct_sum}
 use Rattle.cosine_pairs.specs.Pairs.{pairs_of}
 use Rattle.mdct_pairs.specs.Inputs.{inputs_of}
+use Rattle.mdct_pairs.specs.declared.lanes.Tables.{Tables}
 use Rattle.mdct_pairs.proofs.PairLanes.{places, sums, on-table, before, moved, turned, sums-more}
-use Rattle.mdct_pairs.proofs.PairLanes.{at_count, step_of, first_on, second-on, third-on, first-in, second-in, first_small, second-small, third-small}
+use Rattle.mdct_pairs.proofs.PairLanes.{step_of, first_on, second-on, third-on, first-in, second-in, first_small, second-small, third-small}
 
 -- ---- lengths of what is lent
 
@@ -57,12 +58,12 @@ pub record Turn (xs pairs inputs : List Float) (t h : ℕ) (at : List ℕ) (acc 
   pub at_is : at ≡ tab (λ (j : ℕ). 2 * places (length xs) t (2 * h) j) 4
   pub acc_is : acc ≡ tab (sums (length xs) xs t (2 * h)) 8
 
-pub turn : {xs pairs inputs : List Float} {t h : ℕ} {at : List ℕ} {acc : List Float} → is_frame_size (length xs) ≡ true
-    → (pairs ≡ pairs_of (length xs)) × (inputs ≡ inputs_of xs) → 2 * t + 8 ≤ length xs → h < length xs / 2
-    → at ≡ tab (λ (j : ℕ). 2 * places (length xs) t (2 * h) j) 4 → acc ≡ tab (sums (length xs) xs t (2 * h)) 8 → Turn xs pairs inputs t h at acc
-turn f p r m a s = record { frame = f; tables = p; room = r; more = m; at_is = a; acc_is = s }
+pub turn : (s : Tables) {t h : ℕ} {at : List ℕ} {acc : List Float} → 2 * t + 8 ≤ length s.x.now → h < length s.x.now / 2
+    → at ≡ tab (λ (j : ℕ). 2 * places (length s.x.now) t (2 * h) j) 4 → acc ≡ tab (sums (length s.x.now) s.x.now t (2 * h)) 8
+    → Turn s.x.now s.pairs.now s.inputs.now t h at acc
+turn s r m a e = record { frame = s.frame; tables = (s.pairs_value, s.inputs_value); room = r; more = m; at_is = a; acc_is = e }
 
-module _ (xs pairs inputs : List Float) (t h : ℕ) (at : List ℕ) (acc : List Float) (w : Turn xs pairs inputs t h at acc) where
+module _ {xs pairs inputs : List Float} {t h : ℕ} {at : List ℕ} {acc : List Float} (w : Turn xs pairs inputs t h at acc) where
   abbrev n : ℕ
   n = length xs
 
@@ -78,9 +79,6 @@ module _ (xs pairs inputs : List Float) (t h : ℕ) (at : List ℕ) (acc : List 
   next-2 : 2 * h + 1 < n
   next-2 = omega (arith, left)
 
-  pub turns-few : (2 * h + 2 ≤ 960) × (n ≤ 960)
-  turns-few = (omega (arith, left, few n w.frame), few n w.frame)
-
   pub pairs-in : length pairs ≤ 11520
   pairs-in = omega (arith, pairs-count n pairs w.tables.0, few n w.frame)
 
@@ -90,14 +88,8 @@ module _ (xs pairs inputs : List Float) (t h : ℕ) (at : List ℕ) (acc : List 
   in_pairs : (b : List ℕ) → ((j : ℕ) → j < 4 → get_or b j 0 + 2 ≤ 12 * n) → (j : ℕ) → j < 4 → get_or b j 0 + 2 ≤ length pairs
   in_pairs b g j i = omega (arith, pairs-count n pairs w.tables.0, g j i)
 
-  pub sums-count : length acc ≡ 8
-  sums-count = ap length w.acc_is ∙ length-tab _ 8
-
   pub reads : (j : ℕ) → j < 4 → get_or at j 0 + 2 ≤ length pairs
   reads = in_pairs at (on-table n t size w.room (2 * h) _ _ w.at_is (first-in n t size w.room (2 * h)))
-
-  pub count : length at ≡ 4
-  count = at_count n t size w.room (2 * h) _ _ w.at_is
 
   pub small : (j : ℕ) → j < 4 → get_or at j 0 < 16000
   small = before n t size w.room (2 * h) _ _ w.at_is 16000 (first_small n t size w.room (2 * h))
@@ -109,9 +101,6 @@ module _ (xs pairs inputs : List Float) (t h : ℕ) (at : List ℕ) (acc : List 
         sums-more n t size w.room (2 * h) _ _ w.at_is xs refl next (first-in n t size w.room (2 * h)) (first_on n t size w.room (2 * h))
         (4 * h) _ _ _ _ (omega arith) w.tables.1 w.tables.0 w.acc_is d
 
-    pub sums-1-count : length to ≡ 8
-    sums-1-count = ap length sums-1 ∙ length-tab _ 8
-
   -- after the first step
   module _ (b : List ℕ) (s : ℕ) (e : s ≡ 2 * (2 * t + 1 + n)) (g : b ≡ stepped s at) where
     lanes-1 : b ≡ tab (λ (j : ℕ). 2 * (places n t (2 * h) j + step_of n t j)) 4
@@ -119,9 +108,6 @@ module _ (xs pairs inputs : List Float) (t h : ℕ) (at : List ℕ) (acc : List 
 
     pub reads-1 : (j : ℕ) → j < 4 → get_or b j 0 + 2 ≤ length pairs
     reads-1 = in_pairs b (on-table n t size w.room (2 * h) _ _ lanes-1 (second-in n t size w.room (2 * h)))
-
-    pub count-1 : length b ≡ 4
-    count-1 = at_count n t size w.room (2 * h) _ _ lanes-1
 
     pub small-1 : (j : ℕ) → j < 4 → get_or b j 0 < 16000
     small-1 = before n t size w.room (2 * h) _ _ lanes-1 16000 (second-small n t size w.room (2 * h))
@@ -137,9 +123,6 @@ module _ (xs pairs inputs : List Float) (t h : ℕ) (at : List ℕ) (acc : List 
     module _ (b₂ : List ℕ) (g₂ : b₂ ≡ stepped s b) where
       lanes-2 : b₂ ≡ tab (λ (j : ℕ). 2 * (places n t (2 * h) j + step_of n t j + step_of n t j)) 4
       lanes-2 = moved n t size w.room (2 * h) _ _ lanes-1 s e _ g₂
-
-      pub count-2 : length b₂ ≡ 4
-      count-2 = at_count n t size w.room (2 * h) _ _ lanes-2
 
       pub small-2 : (j : ℕ) → j < 4 → get_or b₂ j 0 < 2 * (8 * n)
       small-2 = before n t size w.room (2 * h) _ _ lanes-2 _ (third-small n t size w.room (2 * h))

@@ -52,7 +52,7 @@ fn around(w: usize, at: &mut [usize; 4])
     }
 }
 
-// Where four outputs from t on read their first pair.
+// Where four outputs from t on read their first pair: before the circle's end, so without the remainder that `mdct` takes.
 fn first_places(t: usize, n: usize) -> [usize; 4]
     requires { (t < 1000) × (n ≤ 960) }
     ensures { result ≡ tab (λ j. 2 * (t + j) + n) 4 }

@@ -12,4 +12,6 @@ pub returns-in-2 : goal.returns-in-2
 returns-in-2 c = corner_third _ _ _ c.args.self.c_value c.requires.0 c.requires.1 c.in-2.is
 
 pub returns-in_default : goal.returns-in_default
-returns-in_default c = let x = c.in_default.in_default-own.rest in corner_fourth _ _ _ c.args.self.c_value c.requires.0 c.requires.1 c.requires.2 x.0.0.1 x.0.1 x.1
+returns-in_default c =
+    let x = c.in_default.in_default-own.rest in
+    corner_fourth _ _ _ c.args.self.c_value c.requires.0 c.requires.1 c.requires.2 x.0.0.1 x.0.1 x.1

@@ -18,44 +18,44 @@ loop-h-init c = (places-none _ _ (sized _ c.args.self.frame) c.requires _ c.firs
 
 pub add_terms-requires : goal.add_terms-requires
 add_terms-requires c =
-    let w = turn c.args.self.frame (c.args.self.pairs_value, c.args.self.inputs_value) c.requires c.loop-h-test.true c.loop-h.invariant.0 c.loop-h.invariant.1 in
-    record { places = (inputs-in _ _ _ _ _ _ _ w (4 * c.loop-h.h) (omega arith), pairs-in _ _ _ _ _ _ _ w); by_index = reads _ _ _ _ _ _ _ w }
+    let w = turn c.args.self c.requires c.loop-h-test.true c.loop-h.invariant.0 c.loop-h.invariant.1 in
+    record { places = (inputs-in w (4 * c.loop-h.h) (omega arith), pairs-in w); by_index = reads w }
 
 pub onward-requires : goal.onward-requires
 onward-requires c =
-    let w = turn c.args.self.frame (c.args.self.pairs_value, c.args.self.inputs_value) c.requires c.loop-h-test.true c.loop-h.invariant.0 c.loop-h.invariant.1 in
-    record { step_bound = short-step _ _ (few _ c.args.self.frame) c.requires; by_index = small _ _ _ _ _ _ _ w }
+    let w = turn c.args.self c.requires c.loop-h-test.true c.loop-h.invariant.0 c.loop-h.invariant.1 in
+    record { step_bound = short-step _ _ (few _ c.args.self.frame) c.requires; by_index = small w }
 
 pub add_terms-requires-in-loop-h : goal.add_terms-requires-in-loop-h
 add_terms-requires-in-loop-h c =
-    let w = turn c.args.self.frame (c.args.self.pairs_value, c.args.self.inputs_value) c.requires c.loop-h-test.true c.loop-h.invariant.0 c.loop-h.invariant.1 in
+    let w = turn c.args.self c.requires c.loop-h-test.true c.loop-h.invariant.0 c.loop-h.invariant.1 in
     record {
-      places = (inputs-in _ _ _ _ _ _ _ w (4 * c.loop-h.h + 2) (omega arith), pairs-in _ _ _ _ _ _ _ w);
-      by_index = reads-1 _ _ _ _ _ _ _ w _ _ refl c.onward.ensures;
+      places = (inputs-in w (4 * c.loop-h.h + 2) (omega arith), pairs-in w);
+      by_index = reads-1 w _ _ refl c.onward.ensures;
     }
 
 pub onward-requires-in-loop-h : goal.onward-requires-in-loop-h
 onward-requires-in-loop-h c =
-    let w = turn c.args.self.frame (c.args.self.pairs_value, c.args.self.inputs_value) c.requires c.loop-h-test.true c.loop-h.invariant.0 c.loop-h.invariant.1 in
+    let w = turn c.args.self c.requires c.loop-h-test.true c.loop-h.invariant.0 c.loop-h.invariant.1 in
     record {
       step_bound = short-step _ _ (few _ c.args.self.frame) c.requires;
-      by_index = small-1 _ _ _ _ _ _ _ w _ _ refl c.onward.ensures;
+      by_index = small-1 w _ _ refl c.onward.ensures;
     }
 
 pub around-requires : goal.around-requires
 around-requires c =
-    let w = turn c.args.self.frame (c.args.self.pairs_value, c.args.self.inputs_value) c.requires c.loop-h-test.true c.loop-h.invariant.0 c.loop-h.invariant.1 in
-    small-2 _ _ _ _ _ _ _ w _ _ refl c.onward.ensures _ c.onward-in-loop-h.ensures
+    let w = turn c.args.self c.requires c.loop-h-test.true c.loop-h.invariant.0 c.loop-h.invariant.1 in
+    small-2 w _ _ refl c.onward.ensures _ c.onward-in-loop-h.ensures
 
 pub loop-h-preserved : goal.loop-h-preserved
 loop-h-preserved c =
-    let w = turn c.args.self.frame (c.args.self.pairs_value, c.args.self.inputs_value) c.requires c.loop-h-test.true c.loop-h.invariant.0 c.loop-h.invariant.1 in
+    let w = turn c.args.self c.requires c.loop-h-test.true c.loop-h.invariant.0 c.loop-h.invariant.1 in
     let n = length c.args.self.x.now in
     let l = c.loop-h in
     let two : 2 * l.h + 1 + 1 ≡ 2 * (l.h + 1) = omega arith in (
-      lanes-3 _ _ _ _ _ _ _ w _ _ refl c.onward.ensures _ c.onward-in-loop-h.ensures _ c.around.ensures
+      lanes-3 w _ _ refl c.onward.ensures _ c.onward-in-loop-h.ensures _ c.around.ensures
           ∙ ap (λ y. tab (λ (j : ℕ). 2 * places n c.args.t y j) 4) two,
-      sums-2 _ _ _ _ _ _ _ w _ _ refl c.onward.ensures _ c.add_terms.ensures _ c.add_terms-in-loop-h.ensures
+      sums-2 w _ _ refl c.onward.ensures _ c.add_terms.ensures _ c.add_terms-in-loop-h.ensures
           ∙ ap (λ y. tab (sums n c.args.self.x.now c.args.t y) 8) two,
       omega arith,
     )
