@@ -16,7 +16,8 @@ use reply::Refused;
 use settings::Refusal;
 use state::Answer;
 
-// Document 01's number of an accepted call, and what a refused one has for a kind.
+// Document 01's number of an accepted call, and what a refused one has for a kind: a head's bytes are numbers, which
+// `Refusal` and `Kind` know only of what they name.
 const ACCEPTED: u32 = 0;
 
 const NO_KIND: u32 = 0;

@@ -68,6 +68,7 @@ pub(crate) fn fill<R: Read>(clock: &impl Clock, input: &mut R, buf: &mut [u8]) -
 {
     let n = buf.len();
     let mut done: usize = 0;
+    // By count: what came is the front of buf, and a reborrowed rest no longer tells of it.
     while done < n {
         let more = read_some(clock, input, &mut buf[done..])?;
         if more == 0 {
@@ -82,14 +83,13 @@ pub(crate) fn fill<R: Read>(clock: &impl Clock, input: &mut R, buf: &mut [u8]) -
 pub(crate) fn write_all<W: Write>(clock: &impl Clock, output: &mut W, buf: &[u8]) -> Result<()>
     ensures { OnOk result (Appends (W.contents output.old) (W.contents output.new) buf.now) }
 {
-    let n = buf.len();
-    let mut done: usize = 0;
-    while done < n {
-        let more = write_some(clock, output, &buf[done..])?;
+    let mut rest = buf;
+    while !rest.is_empty() {
+        let more = write_some(clock, output, rest)?;
         if more == 0 {
             return Err(Error::from(ErrorKind::WriteZero));
         }
-        done += more;
+        rest = &rest[more..];
     }
     Ok(())
 }

@@ -8,7 +8,7 @@ ghost use Rattle.direct.specs.Direct.{called, loss_in};
 use put_state_words::to_words;
 use state_words::{WORDS, from_words};
 
-// Document 01's number of an accepted call.
+// Document 01's number of an accepted call. By number: the words are another language's to read.
 const ACCEPTED: u32 = 0;
 
 // Conceals one lost frame: `state` is the words of a state in document 01's order, `history` 4,336 samples, and `answer`

@@ -6,7 +6,7 @@ ghost use Rattle.std.specs.Prelude.{◌≡◌, cond};
 ghost use Rattle.std.specs.Float.Ieee.{is_nan};
 ghost use Rattle.float_extremes.specs.Extremes.{min_of, max_of};
 
-// y where x is NaN, x where y is; of two numbers y where `second` says so, else x.
+// y where x is NaN, x where y is; of two numbers y where `second` says so, else x. `second` is the outcome of a comparison and chooses a number, not a step.
 fn number_of(x: f32, y: f32, second: bool) -> f32
     ensures { result ≡ cond (is_nan x) y (cond (is_nan y) x (cond second y x)) }
 {

@@ -8,7 +8,7 @@ ghost use Rattle.float_root.specs.Root.{sqrt_of};
 ghost use Rattle.float_bits.specs.Steps.{significand};
 ghost use Rattle.float_root.specs.Steps.{ScaledTo, RootBits};
 
-// The largest whole number whose square is at most m.
+// The largest whole number whose square is at most m. The loop halves an interval: it counts no index.
 fn isqrt(m: u64) -> u64
     requires { m < 2 ^ 48 }
     ensures { (result * result ≤ m) × (m < (result + 1) * (result + 1)) }
@@ -33,7 +33,7 @@ struct Scaled {
     k: u64,
 }
 
-// q * 2 ^ h with 47 or 48 digits before an even power of two.
+// q * 2 ^ h with 47 or 48 digits before an even power of two. The loop ends by m's size: it counts no index.
 fn scale(q: u64, h: u64) -> Scaled
     requires q_nonzero { 0 < q }
     requires q_bound { q < 2 ^ 24 }
@@ -82,21 +82,12 @@ fn root_bits(b: u64) -> u64
 pub fn sqrt_f32(x: f32) -> f32
     ensures { result ≡ sqrt_of x }
 {
-    if x != x {
+    if x.is_nan() {
         return x;
     }
-    let b = x.to_bits();
-    if b == 0 {
-        return x;
+    match x.to_bits() {
+        0 | 0x8000_0000 | 0x7f80_0000 => x,
+        b if b > 0x8000_0000 => 0.0 / 0.0,
+        b => f32::from_bits(root_bits(b as u64) as u32),
     }
-    if b == 0x8000_0000 {
-        return x;
-    }
-    if b == 0x7f80_0000 {
-        return x;
-    }
-    if b > 0x8000_0000 {
-        return 0.0 / 0.0;
-    }
-    f32::from_bits(root_bits(b as u64) as u32)
 }

@@ -20,13 +20,13 @@ fn first_terms(x: &[f32], row: &mut [f32])
         let mut d = 0.0f32;
         // By place: sample i meets sample i - lag.
         for i in lag..top {
-            d = d + x[i] * x[i - lag];
+            d += x[i] * x[i - lag];
         }
         *sum = d;
     }
 }
 
-// The other terms: at each sample one of every lag, so that the sums run side by side, each in its own order.
+// The other terms: at each sample one of every lag, so that the sums run side by side, each in its own order. By place: sum j meets sample i - top + j.
 fn other_terms(x: &[f32], row: &mut [f32])
     requires { (0 < length row.old) × (length row.old ≤ length x.now) × (row.old ≡ lag_row x.now (length row.old) (length row.old - 1)) }
     ensures { row.new ≡ lag_row x.now (length row.old) (length x.now) }
@@ -35,7 +35,7 @@ fn other_terms(x: &[f32], row: &mut [f32])
     for i in top..x.len() {
         let v = x[i];
         for (j, sum) in row.iter_mut().enumerate() {
-            *sum = *sum + v * x[i - top + j];
+            *sum += v * x[i - top + j];
         }
     }
 }
@@ -49,7 +49,7 @@ fn correlations<const LAGS: usize>(x: &[f32; SAMPLES]) -> [f32; LAGS]
     first_terms(x, &mut row);
     other_terms(x, &mut row);
     row.reverse();
-    row[0] = row[0] + NOISE_FLOOR;
+    row[0] += NOISE_FLOOR;
     row
 }
 

@@ -25,7 +25,7 @@ fn padded(buf: &[f32], mem: &[f32]) -> [f32; ORDER + LONGEST]
     pad
 }
 
-// Adds to each of out's samples its taps in order; row by row, so that neighbouring samples run side by side.
+// Adds to each of out's samples its taps in order; row by row, so that neighbouring samples run side by side. By place: tap j stands j places before the sample.
 fn add_taps(out: &mut [f32], num: &[f32], pad: &[f32])
     requires { (length num.now ≤ 24) × (length pad.now ≡ length out.old + 24) }
     ensures { out.new
@@ -33,7 +33,7 @@ fn add_taps(out: &mut [f32], num: &[f32], pad: &[f32])
 {
     for (j, c) in num.iter().enumerate() {
         for (i, sum) in out.iter_mut().enumerate() {
-            *sum = *sum + *c * pad[NEWEST + i - j];
+            *sum += *c * pad[NEWEST + i - j];
         }
     }
 }
@@ -48,7 +48,7 @@ fn filter_from(buf: &mut [f32], from: usize, num: &[f32], mem: &[f32])
     add_taps(&mut buf[from..], num, &pad[from..end]);
 }
 
-// Filters from place `from` on; what stands before it stays.
+// Filters from place `from` on; what stands before it stays. Three slices: buf is changed, and taps and memory have owners of their own.
 // mem, the inputs before the start with the most recent first, is as long as num, 24 at most, and buf 1,024 at most; else refused, and buf stays.
 pub fn celt_fir_from(buf: &mut [f32], from: usize, num: &[f32], mem: &[f32]) -> Result<(), Refused>
     ensures { replied result buf.new

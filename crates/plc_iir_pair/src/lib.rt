@@ -32,7 +32,7 @@ pub fn celt_iir_pair(
     let mut z = [0.0f32; ORDER + LONGEST];
     plc_pad::remember(&mut y, mem_a).unwrap();
     plc_pad::remember(&mut z, mem_b).unwrap();
-    // By place: four lists are read and written in step.
+    // By place: four lists in step, and each turn reads the 24 places before the one that it writes.
     for i in 0..a.len() {
         let sum_a = less_taps(den_a, y[i..i + ORDER].try_into().unwrap(), a[i]);
         let sum_b = less_taps(den_b, z[i..i + ORDER].try_into().unwrap(), b[i]);

@@ -24,6 +24,7 @@ fn solve(lpc: &mut [f32], ac: &[f32])
     }
     for i in 0..p {
         let mut rr = 0.0f32;
+        // By place: lpc runs up while ac runs down.
         for j in 0..i {
             rr += lpc[j] * ac[i - j];
         }
