@@ -6,7 +6,7 @@ ghost use Rattle.std.specs.Prelude.{◌≡◌, ◌+◌, ◌≤◌, length};
 ghost use Rattle.loops.specs.Part.{put};
 ghost use Rattle.reply.specs.Reply.{replied, reply_if, value_or};
 ghost use Rattle.custom_mode.specs.Mode.{max_bands};
-ghost use Rattle.history.specs.History.{half, overlap, channel, whole, tail_at, tail_list};
+ghost use Rattle.history.specs.History.{half, overlap, channel, tail_at, tail_list};
 ghost use Rattle.settings.specs.Settings.{frame, check_settings};
 ghost use Rattle.noise_cover.specs.Cover.{covered_tail};
 ghost use Rattle.noise_loss.specs.Loss.{channel_block, noised, after_noise, noise_takes};
@@ -42,20 +42,8 @@ fn noise_channel(history: &mut [f32], at: usize, k: Settings, seed: u32, energie
     after
 }
 
-// Each used channel, from both channels' energies. The second goes on from the first one's seed.
-fn noise_channels(history: &mut [f32], k: Settings, seed: u32, energies: [f32; 50]) -> u32
-    requires { (check_settings k ≡ 0) × (length history.old ≡ whole) }
-    ensures { noised history.new result ≡ after_noise k seed energies history.old }
-{
-    let one = noise_channel(history, 0, k, seed, &energies[..MAX_BANDS]);
-    if k.channels == 2 {
-        noise_channel(history, CHANNEL, k, one, &energies[MAX_BANDS..])
-    } else {
-        one
-    }
-}
-
-// A noise loss of a whole history, from the energies of both channels: answers the seed after its blocks.
+// A noise loss of a whole history, from the energies of both channels: answers the seed after its blocks. The second channel
+// goes on from the first one's seed.
 pub fn noise_loss(
     k: Settings,
     history: &mut [f32],
@@ -68,5 +56,10 @@ pub fn noise_loss(
     if !settings_pass(k) || history.len() != WHOLE {
         return Err(Refused);
     }
-    Ok(noise_channels(history, k, seed, energies))
+    let one = noise_channel(history, 0, k, seed, &energies[..MAX_BANDS]);
+    if k.channels == 2 {
+        Ok(noise_channel(history, CHANNEL, k, one, &energies[MAX_BANDS..]))
+    } else {
+        Ok(one)
+    }
 }
