@@ -11,7 +11,7 @@ use deemphasis::{has_room, next_memory, pcm_value};
 use reply::Refused;
 
 // Both channels in one loop, so that their two chains of additions run side by side. A function of its own beside that of one
-// channel: an array of slices whose length is a const parameter is not covered by the check.
+// channel: one for both would take `[&[f32]; N]`, and the check does not cover an array of slices whose length is a const parameter.
 fn filter_stereo(
     v: &[f32],
     w: &[f32],
@@ -27,10 +27,12 @@ fn filter_stereo(
 {
     let mut first = left;
     let mut second = right;
+    // by place: values 2 q and 2 q + 1 are kept of the samples from q * downsample on
     for q in 0..v.len() / downsample {
         let from = q * downsample;
         pcm[2 * q] = pcm_value(first, v[from]);
         pcm[2 * q + 1] = pcm_value(second, w[from]);
+        // by place: sample j of both; the items of a zip are known by the calls that gave them, not by place
         for j in from..from + downsample {
             first = next_memory(first, v[j]);
             second = next_memory(second, w[j]);

@@ -1,11 +1,11 @@
-use Rattle.std.proofs.Common.{◌≡◌, [], ◌∷◌, ◌*◌}
+use Rattle.std.proofs.Common.{◌≡◌, [], ◌∷◌, ◌+◌, ◌*◌}
 use Rattle.loops.specs.Front.{front, tab}
 use Rattle.deemphasis.specs.Deemphasis.{memory_to, value_at}
 use Rattle.deemphasis_mono.proofs.filter_mono.Given as goal
 
--- after j samples
-abbrev pub invariant-loop-j : goal.invariant-loop-j
-invariant-loop-j l = l.mem ≡ memory_to l.v l.memory l.j
+-- after the samples before x
+abbrev pub invariant-loop-x : goal.invariant-loop-x
+invariant-loop-x l = l.mem ≡ memory_to l.v l.memory (l.from + l.x-index)
 
 -- after q values
 abbrev pub invariant-loop-q : goal.invariant-loop-q
