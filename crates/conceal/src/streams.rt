@@ -68,7 +68,7 @@ pub(crate) fn fill<R: Read>(clock: &impl Clock, input: &mut R, buf: &mut [u8]) -
 {
     let n = buf.len();
     let mut done: usize = 0;
-    // By count: what came is the front of buf, and a reborrowed rest no longer tells of it.
+    // By count: how many bytes came is the answer.
     while done < n {
         let more = read_some(clock, input, &mut buf[done..])?;
         if more == 0 {
