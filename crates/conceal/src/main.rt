@@ -27,7 +27,7 @@ fn filled<R: Read>(clock: &impl Clock, input: &mut R, rec: &mut [u8]) -> Result<
     streams::fill(clock, input, rec).context("input cannot be read")
 }
 
-// Writes, or says why the output takes no more.
+// Writes, or says why the output takes no more. Apart from `filled`: another trait, other words, another contract.
 fn written<W: Write>(clock: &impl Clock, output: &mut W, bytes: &[u8]) -> Result<()>
     ensures { OnOk result (Appends (W.contents output.old) (W.contents output.new) bytes.now) }
 {
