@@ -65,10 +65,6 @@ module _ (n : ℕ) (z : Size n) where
       let m : 2 * i + 1 ≤ 8 * n = omega arith in
       omega (arith, mul-le-mul_left (960 / n) m, mul_comm (960 / n) (8 * n), mul_assoc 8 n (960 / n), whole)
 
--- from one multiple of 8 below another to the next
-pub next_eight : (t m : ℕ) → t % 8 ≡ 0 → m % 8 ≡ 0 → t < m → t + 8 ≤ m
-next_eight t m e f h = let q : t / 8 < m / 8 = omega arith in omega arith
-
 -- no frame is longer
 pub few : (n : ℕ) → is_frame_size n ≡ true → n ≤ 960
 few n f = at_most _ (sized _ f)

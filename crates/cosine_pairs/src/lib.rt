@@ -55,6 +55,7 @@ impl Table<'_> {
 }
 
 // Whether n is a frame size and its pairs take so many places.
+#[tactic(auto, using(std::proofs::lemmas::Bool::Decides::nat_tests, cosine_circle::proofs::Sizes::few), unfolding(crate::specs::Pairs::pairs_take))]
 fn pairs_take(n: usize, places: usize) -> bool
     ensures { result ≡ pairs_take n places }
 {

@@ -19,12 +19,12 @@ tab-run f g t (suc m) e =
     ∙ ap (λ z. z ++ (g m ∷ [])) (tab-run f g t m (λ j h. e j (omega arith)))
     ∙ ap (λ z. tab f (t + m) ++ (z ∷ [])) (e m (omega arith)) ∙ sym (ap (tab f) (add-suc t m))
 
--- a run that is put behind the outputs up to t
-pub run_put : {A : Type 0} (f g : ℕ → A) (xs b y : List A) (t m k : ℕ) → b ≡ front (tab f t) xs t → y ≡ tab g m
-    → ((j : ℕ) → j < m → g j ≡ f (t + j)) → k ≡ m → put t k y b ≡ front (tab f (t + m)) xs (t + m)
-run_put f g xs b y t m k e h q l =
+-- a run that is put behind the outputs up to t, which are then u
+pub run_put : {A : Type 0} (f g : ℕ → A) (xs b y : List A) (t m k u : ℕ) → b ≡ front (tab f t) xs t → y ≡ tab g m
+    → ((j : ℕ) → j < m → g j ≡ f (t + j)) → k ≡ m → t + m ≡ u → put t k y b ≡ front (tab f u) xs u
+run_put f g xs b y t m k u e h q l a =
     ap₂ (λ n z. put t n z b) l h ∙ ap (put t m (tab g m)) e ∙ put_next t m (tab f t) (tab g m) xs (length-tab f t)
-    ∙ ap (λ z. front z xs (t + m)) (tab-run f g t m q)
+    ∙ ap (λ z. front z xs (t + m)) (tab-run f g t m q) ∙ ap (λ z. front (tab f z) xs z) a
 
 -- a run of outputs that starts at t
 pub rest-none : {A : Type 0} (f : ℕ → A) (xs : List A) (t : ℕ) → xs ≡ front (take t xs ++ tab f 0) xs (t + 0)

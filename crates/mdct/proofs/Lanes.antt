@@ -12,7 +12,7 @@ use Rattle.loops.specs.Sum.{sum_to, sum-none, sum_more}
 use Rattle.mdct.specs.Imdct.{imdct_term}
 use Rattle.cosine_circle.specs.Circle.{is_frame_size, IsCircle}
 use Rattle.cosine_circle.proofs.Circles.{known}
-use Rattle.cosine_circle.proofs.Sizes.{Size, sized, even, eights, next_eight, at_least, at_most}
+use Rattle.cosine_circle.proofs.Sizes.{Size, even, at_least, at_most}
 use Rattle.mdct.proofs.Angles.{place, place-less, place_none, place-more}
 use Rattle.mdct.proofs.Fronts.{tab-const}
 use Rattle.mdct.proofs.Terms.{term_is}
@@ -31,13 +31,6 @@ module _ (n t : ℕ) (f : is_frame_size n ≡ true) (h : t < 1920) where
 
   pub first-along : (t + n / 2 < 8000) × (1 ≤ 2) × (0 < 4 * n)
   first-along = omega (arith, known n f)
-
--- eight outputs more, of m
-pub eight-more : (n t m : ℕ) → is_frame_size n ≡ true → m ≡ 2 * n → t % 8 ≡ 0 → t < m → (t + 8 ≤ m) × (m ≤ 1920)
-eight-more n t m f e g h =
-    let z = sized n f in
-    let x = next_eight t (2 * n) g (eights n z) (omega arith) in
-    (omega arith, omega (arith, at_most n z))
 
 -- where output t reads its cosine for input k, how far on the next one is, and its sum of the inputs before k, for eight outputs
 abbrev pub places : ℕ → ℕ → ℕ → ℕ → ℕ

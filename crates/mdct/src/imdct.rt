@@ -92,17 +92,20 @@ impl Frame<'_> {
     }
 
     // All 2 n outputs.
+    #[tactic(auto, using(cosine_circle::proofs::Sizes::few))]
     fn outputs(self, out: &mut [f32])
         requires { length out.old ≡ 2 * length self.x.now }
         ensures { out.new ≡ imdct (length self.entry.x.now) self.entry.x.now }
     {
-        for t in (0..out.len()).step_by(8) {
+        for k in 0..out.len() / 8 {
+            let t = 8 * k;
             halves(&self.eight(t), &mut out[t..t + 8]);
         }
     }
 }
 
 // Whether there are as many inputs as one of the four frame sizes, and room for twice as many outputs.
+#[tactic(auto, using(std::proofs::lemmas::Bool::Decides::nat_tests, cosine_circle::proofs::Sizes::few), unfolding(crate::specs::Imdct::imdct_takes))]
 pub fn imdct_takes(inputs: usize, outputs: usize) -> bool
     ensures { result ≡ imdct_takes inputs outputs }
 {

@@ -103,15 +103,18 @@ impl Tables<'_> {
             products,
         }
     }
+
     // The n sums, in pairs, and the products made for them.
+    #[tactic(auto, using(crate::proofs::Eights::room))]
     pub(crate) fn fill_sums(self, sums: &mut [f64]) -> usize
         requires { length sums.old ≡ length self.x.now }
         ensures { (sums.new ≡ values (pair_sums (length self.entry.x.now) self.entry.x.now))
             × (result ≡ total (pair_sums (length self.entry.x.now) self.entry.x.now)) }
     {
         let mut products = 0;
-        for t in (0..sums.len()).step_by(8) {
-            let made = self.four(t / 2);
+        for k in 0..sums.len() / 8 {
+            let t = 8 * k;
+            let made = self.four(4 * k);
             sums[t..t + 8].copy_from_slice(&made.sums);
             products += made.products;
         }

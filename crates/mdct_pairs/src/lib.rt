@@ -55,6 +55,7 @@ fn sums_within<const P: usize, const I: usize>(spectrum: &[f32], sums: &mut [f64
 }
 
 // Whether there are as many inputs as one of the four frame sizes, and room for as many sums.
+#[tactic(auto, using(std::proofs::lemmas::Bool::Decides::nat_tests), unfolding(crate::specs::Pairs::pair_takes))]
 fn pair_takes(inputs: usize, sums: usize) -> bool
     ensures { result ≡ pair_takes inputs sums }
 {
