@@ -17,7 +17,7 @@ pub(crate) fn decay_period(lag: usize) -> usize
 }
 
 // The root of the newest period's energy over that of the one before it, at most 1.
-pub(crate) fn pitch_decay(exc: &[f32; 1024], lag: usize) -> f32
+pub(crate) fn pitch_decay(exc: &[f32; HALF], lag: usize) -> f32
     ensures { result ≡ pitch_decay exc.now lag }
 {
     let period = decay_period(lag);

@@ -11,6 +11,7 @@ ghost use Rattle.excitation.specs.Cycle.{pitch_cycle};
 use history::HALF;
 use periodic_copy::periodic_copy;
 use plc_fir::celt_fir_from;
+use plc_pad::ORDER;
 use reply::Refused;
 
 mod decay;
@@ -20,14 +21,14 @@ mod decay;
 pub struct Voice<'a> {
     pub new: &'a [f32],
     pub lag: usize,
-    pub lpc: &'a [f32; 24],
+    pub lpc: &'a [f32; ORDER],
 }
 
 // Fills e with the last pitch cycle of the voice's excitation, by the samples before its newest, the most recent first;
 // returns the energy of the history that e stands for.
 // Refused, with e as lent: newest not of 1,024 samples, a lag of 0 or above 1,024.
 #[tactic(auto, using(std::proofs::lemmas::Bool::Decides::nat_tests), unfolding(reply::specs::Reply::reply_if, periodic_copy::specs::Copy::cycle_takes))]
-pub fn repeat_cycle(e: &mut [f32], voice: Voice, mem: &[f32; 24]) -> Result<f32, Refused>
+pub fn repeat_cycle(e: &mut [f32], voice: Voice, mem: &[f32; ORDER]) -> Result<f32, Refused>
     ensures { replied result (cycle e.new (value_or zero32 result))
         ≡ reply_if (cycle_takes (length voice.entry.new.now) voice.entry.lag)
         (pitch_cycle (length e.old) voice.entry.lpc.now mem.now voice.entry.new.now voice.entry.lag) (cycle e.old zero32) }

@@ -15,10 +15,8 @@ use excitation::{Voice, repeat_cycle};
 use history::{EXTRA, HALF, LONGEST_FRAME};
 use plc_iir::celt_iir_inplace;
 use plc_iir_pair::celt_iir_pair;
+use plc_pad::ORDER;
 use reply::Refused;
-
-// How many coefficients a predictor has.
-pub const ORDER: usize = plc_pad::ORDER;
 
 pub const LONGEST: usize = LONGEST_FRAME + EXTRA;
 
@@ -31,7 +29,7 @@ fn fade_of(first: bool) -> f32
 }
 
 // The newest 24, the most recent first: both filters' memory.
-fn most_recent(new: &[f32]) -> [f32; 24]
+fn most_recent(new: &[f32]) -> [f32; ORDER]
     requires { length new.now ≡ half }
     ensures { result ≡ recent new.now }
 {
@@ -42,7 +40,7 @@ fn most_recent(new: &[f32]) -> [f32; 24]
 }
 
 // Fills e with the filter's input, the faded cycle; returns the filter's memory, and the energy of the history that the cycle stands for.
-fn filter_input(e: &mut [f32], voice: Voice, first: bool) -> ([f32; 24], f32)
+fn filter_input(e: &mut [f32], voice: Voice, first: bool) -> ([f32; ORDER], f32)
     requires { (length voice.new.now ≡ half) × (0 < voice.lag) × (voice.lag ≤ half) }
     ensures { (result.0 ≡ recent voice.entry.new.now)
         × (e.new

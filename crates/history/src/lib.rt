@@ -22,5 +22,10 @@ pub const EXTRA: usize = 2 * OVERLAP;
 // A channel with its overlap; channel 1 starts here.
 pub const CHANNEL: usize = SAMPLES + OVERLAP;
 
+// Where channel 1's newest samples start, and where they end.
+pub const SECOND_HALF: usize = CHANNEL + HALF;
+
+pub const SECOND_END: usize = CHANNEL + SAMPLES;
+
 // Both channels.
 pub const WHOLE: usize = 2 * CHANNEL;

@@ -43,7 +43,7 @@ impl Place {
 #[tactic(auto, using(std::proofs::lemmas::Bool::Decides::nat_tests), unfolding(reply::specs::Reply::reply_if, crate::specs::Copy::cycle_takes))]
 pub fn periodic_copy(
     e: &mut [f32],
-    exc: &[f32; 1024],
+    exc: &[f32; HALF],
     new: &[f32],
     lag: usize,
     decay: f32,

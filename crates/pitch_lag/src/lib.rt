@@ -7,7 +7,7 @@ ghost use Rattle.reply.specs.Reply.{ok_if};
 ghost use Rattle.history.specs.History.{whole};
 ghost use Rattle.pitch_lag.specs.Lag.{low_passed, lag_of};
 
-use history::{CHANNEL, HALF, SAMPLES, WHOLE};
+use history::{CHANNEL, HALF, SAMPLES, SECOND_END, WHOLE};
 use plc_downsample::pitch_downsample;
 use plc_search::pitch_search;
 use reply::Refused;
@@ -21,7 +21,7 @@ fn low_pass(two: bool, history: &[f32]) -> [f32; HALF]
     ensures { result ≡ low_passed two history.now }
 {
     let mut low = [0.0f32; HALF];
-    let second = two.then_some(&history[CHANNEL..CHANNEL + SAMPLES]);
+    let second = two.then_some(&history[CHANNEL..SECOND_END]);
     pitch_downsample(&history[0..SAMPLES], second, &mut low).unwrap();
     low
 }

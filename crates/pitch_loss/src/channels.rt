@@ -10,17 +10,13 @@ ghost use Rattle.pitch_loss.specs.PitchLoss.{pitch_tails};
 
 use crate::Pitch;
 use excitation::Voice;
-use extrapolate::{LONGEST, ORDER, extrapolate, extrapolate_pair};
-use history::{CHANNEL, EXTRA, HALF, SAMPLES, TAIL};
+use extrapolate::{LONGEST, extrapolate, extrapolate_pair};
+use history::{EXTRA, HALF, SAMPLES, SECOND_END, SECOND_HALF, TAIL};
+use plc_pad::ORDER;
 use take_in::take_in;
 
-// Where channel 1's newest samples begin, and where they end.
-const SECOND: usize = CHANNEL + HALF;
-
-const END: usize = CHANNEL + SAMPLES;
-
 // The 24 coefficients from `from` on.
-fn coefficients(predictor: [f32; 48], from: usize) -> [f32; 24]
+fn coefficients(predictor: [f32; 48], from: usize) -> [f32; ORDER]
     requires { from ≤ order }
     ensures { result ≡ take order (drop from predictor) }
 {
@@ -58,7 +54,7 @@ impl Loss {
                 lpc: &coefficients(self.pitch.predictor, 0),
             },
             Voice {
-                new: &h[SECOND..END],
+                new: &h[SECOND_HALF..SECOND_END],
                 lag,
                 lpc: &coefficients(self.pitch.predictor, ORDER),
             },
@@ -115,6 +111,6 @@ impl Loss {
         let mut e1 = [0.0; LONGEST];
         self.continue_both(&mut e0, &mut e1, history);
         self.take_at(history, HALF, &e0);
-        self.take_at(history, SECOND, &e1);
+        self.take_at(history, SECOND_HALF, &e1);
     }
 }

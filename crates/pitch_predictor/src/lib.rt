@@ -7,7 +7,7 @@ ghost use Rattle.reply.specs.Reply.{ok_if};
 ghost use Rattle.history.specs.History.{whole, tails};
 ghost use Rattle.pitch_predictor.specs.Predictor.{fitted_to};
 
-use history::{CHANNEL, HALF, SAMPLES, WHOLE};
+use history::{HALF, SAMPLES, SECOND_END, SECOND_HALF, WHOLE};
 use pitch_fit::pitch_fit;
 use plc_pad::ORDER;
 use reply::Refused;
@@ -23,7 +23,7 @@ pub fn fit_predictor(two: bool, history: &[f32], predictor: [f32; 48]) -> Result
     let mut p = predictor;
     pitch_fit(&history[HALF..SAMPLES], &mut p[..ORDER])?;
     if two {
-        pitch_fit(&history[CHANNEL + HALF..CHANNEL + SAMPLES], &mut p[ORDER..])?;
+        pitch_fit(&history[SECOND_HALF..SECOND_END], &mut p[ORDER..])?;
     }
     Ok(p)
 }

@@ -10,13 +10,16 @@ ghost use Rattle.plc_search.specs.Rows.{near_row, near_at};
 use plc_best::find_best_pitch;
 use plc_correlate::correlate;
 
-// At half rate: where the newest samples, which are compared, start.
+// At half rate: where the newest samples start.
 const LATER: usize = 360;
 
-// How many they are.
+// How many of these are compared.
 const COMPARED: usize = 664;
 
-// How many places they are compared with.
+// All samples at half rate.
+const SAMPLES: usize = LATER + COMPARED;
+
+// At half rate: how many places they are compared with.
 const PLACES: usize = 310;
 
 // The last place: like the first it has one neighbour, and stays.
@@ -25,7 +28,7 @@ const LAST: usize = PLACES - 1;
 // At quarter rate: how many samples are compared.
 const COMPARED4: usize = COMPARED / 2;
 
-// How many places they are compared with.
+// At quarter rate: how many places they are compared with.
 const PLACES4: usize = PLACES / 2;
 
 // How many samples these places reach.
@@ -62,7 +65,7 @@ struct Near {
 }
 
 impl Near {
-    fn around(y: &[f32; 1024], b: usize) -> Near
+    fn around(y: &[f32; SAMPLES], b: usize) -> Near
         requires { b ≤ 154 }
         ensures place { result.b ≡ b }
         ensures values { result.row ≡ near_row y.now b }
@@ -88,7 +91,7 @@ impl Near {
 }
 
 // The finer correlations around twice b0 and twice b1; 0 elsewhere.
-fn fine_row(y: &[f32; 1024], b0: usize, b1: usize) -> [f32; PLACES]
+fn fine_row(y: &[f32; SAMPLES], b0: usize, b1: usize) -> [f32; PLACES]
     requires { (b0 ≤ 154) × (b1 ≤ 154) }
     ensures { result ≡ tab (fine_at y.now b0 b1) 310 }
 {
@@ -102,7 +105,7 @@ fn fine_row(y: &[f32; 1024], b0: usize, b1: usize) -> [f32; PLACES]
 }
 
 // The two best places at quarter rate.
-fn coarse_best(y: &[f32; 1024]) -> (usize, usize)
+fn coarse_best(y: &[f32; SAMPLES]) -> (usize, usize)
     ensures { result ≡ ((coarse_best y.now).first.at, (coarse_best y.now).second.at) }
 {
     let mut x4 = [0.0f32; COMPARED4];
@@ -143,7 +146,7 @@ fn refine(xcorr: &[f32; PLACES], p: usize) -> usize
 }
 
 // The offset of the best lag, from 0 to 618: the lag is 720 less it.
-pub fn pitch_search(y: &[f32; 1024]) -> usize
+pub fn pitch_search(y: &[f32; SAMPLES]) -> usize
     ensures { result ≡ pitch_search y.now }
 {
     let (b0, b1) = coarse_best(y);
