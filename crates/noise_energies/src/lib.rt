@@ -9,6 +9,9 @@ ghost use Rattle.noise_energies.specs.Energies.{energy_drop, drops, lower_energi
 
 use custom_mode::standard::MAX_BANDS;
 
+// From this loss count on a noise loss reads the background's energies, and nothing drops.
+const LATE: u32 = 5;
+
 #[tactic(auto, unfolding(crate::specs::Energies::energy_drop))]
 fn energy_drop(count: u32) -> f32
     ensures { result ≡ energy_drop count }
@@ -16,7 +19,7 @@ fn energy_drop(count: u32) -> f32
     if count == 0 { 1.5 } else { 0.5 }
 }
 
-// The energy at place i, lower by `by` where it drops.
+// The energy at place i, lower by `by` where it drops. By place: document 01's list is flat, band i % 25 of channel i / 25.
 #[tactic(auto, unfolding(crate::specs::Energies::drops))]
 fn dropped(energy: f32, i: usize, channels: usize, start: usize, end: usize, by: f32) -> f32
     ensures { result ≡ cond (drops channels start end i) (sub binary32 energy by) energy }
@@ -39,7 +42,7 @@ pub fn lower_energies(
 ) -> [f32; 50]
     ensures { result ≡ lower_energies channels start end count coarse }
 {
-    if 5 <= count {
+    if LATE <= count {
         return coarse;
     }
     let by = energy_drop(count);
@@ -55,5 +58,5 @@ pub fn lower_energies(
 pub fn read_energies(lowered: [f32; 50], background: [f32; 50], count: u32) -> [f32; 50]
     ensures { result ≡ read_energies count lowered background }
 {
-    if 5 <= count { background } else { lowered }
+    if LATE <= count { background } else { lowered }
 }

@@ -6,9 +6,9 @@ use Rattle.noise_energies.specs.Energies.{lower_energies}
 use Rattle.noise_energies.proofs.Laws.{lower-more, lower-all}
 use Rattle.noise_energies.proofs.lower_energies.Goals as goal
 
-pub returns-then-count-ge5 : goal.returns-then-count-ge5
+pub returns-then-count-ge-LATE : goal.returns-then-count-ge-LATE
 unfolding lower_energies
-returns-then-count-ge5 c = rw (le-leb 5 c.args.count c.if-count-ge5.true)
+returns-then-count-ge-LATE c = rw (le-leb 5 c.args.count c.if-count-ge-LATE.true)
 
 pub loop-i-init : goal.loop-i-init
 loop-i-init c = tab-none _ _
