@@ -7,7 +7,12 @@ ghost use Rattle.std.specs.Float.{fin, binary32, binary64};
 ghost use Rattle.std.specs.Float.Ieee.{minus, fits, of_int, add};
 ghost use Rattle.band_gain.specs.Gain.{steps, gain_at, gain_of, GainRange};
 
-// k + 38,400, where k is the greatest whole number not above 256 x.
+use std::f64::consts::LN_2;
+
+// The steps of 1/256 from -150 to 0.
+const BIAS: u64 = 150 * 256;
+
+// k + 38,400, where k is the greatest whole number not above 256 x: counted from 0 on, as the definition counts.
 fn steps_of(x: f32) -> u64
     requires gain_range { GainRange x }
     requires t { T (fits binary32 x) }
@@ -15,30 +20,26 @@ fn steps_of(x: f32) -> u64
 {
     let w = 256.0 * float_bits::formats::f32_to_f64(x);
     if 0.0 <= w {
-        return 38_400 + std::num::truncating_f64_to_u64(w);
+        return BIAS + std::num::truncating_f64_to_u64(w);
     }
     let v = -w;
     let t = std::num::truncating_f64_to_u64(v);
-    if (t as f64) < v {
-        38_399 - t
-    } else {
-        38_400 - t
-    }
+    if v > t as f64 { BIAS - 1 - t } else { BIAS - t }
 }
 
-// q - 38,400
+// q - 38,400.
 fn whole(q: u64) -> f64
     requires { q ≤ 46_592 }
     ensures { result ≡ of_int binary64 (minus q 38_400) }
 {
-    if 38_400 <= q {
-        (q - 38_400) as f64
+    if BIAS <= q {
+        (q - BIAS) as f64
     } else {
-        -((38_400 - q) as f64)
+        -((BIAS - q) as f64)
     }
 }
 
-// 2 ^ (n - 150), by the exponent's field
+// 2 ^ (n - 150), by the exponent's field.
 fn two_to(n: u64) -> f64
     requires { n ≤ 182 }
     ensures { result ≡ fin false 1 (minus n 150) }
@@ -51,7 +52,7 @@ fn gain_at(x: f32, q: u64) -> f32
     ensures { result ≡ gain_at x q }
 {
     let r = float_bits::formats::f32_to_f64(x) - whole(q) / 256.0;
-    let y = r * 0.6931471805599453;
+    let y = r * LN_2;
     let p = 1.0 + y * (1.0 + y * (0.5 + y * 0.16666666666666666));
     float_narrow::f64_to_f32(powers::power_at(q) * p * two_to(q / 256))
 }

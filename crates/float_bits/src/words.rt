@@ -56,7 +56,7 @@ pub fn noise_value(w: u32) -> f32
     (w.cast_signed() >> 20) as f32
 }
 
-// The low 32 bits of the product.
+// The low 32 bits of the product: document 01's own helper for the draw.
 #[tactic(auto, unfolding(crate::specs::Words::wrapping_mul))]
 pub fn wrapping_mul_u32(a: u32, b: u32) -> u32
     ensures { result ≡ wrapping_mul a b }

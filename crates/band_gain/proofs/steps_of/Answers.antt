@@ -37,25 +37,25 @@ int_to_float-t c = le→leb c.truncating_f64_to_u64-t.result (2 ^ 53) (omega (
   (small-below _ _ _ (fine-at c.args.x _ c.f32_to_f64-w.ensures c.requires.gain_range c.requires.t) c.if-w.false c.truncating_f64_to_u64-t.ensures),
 ))
 
-pub overflow_sub-result : goal.overflow_sub-result
-overflow_sub-result c = (small-below _ _ _ (fine-at c.args.x _ c.f32_to_f64-w.ensures c.requires.gain_range c.requires.t) c.if-w.false c.truncating_f64_to_u64-t.ensures)
+pub overflow_sub-result-then-v-t : goal.overflow_sub-result-then-v-t
+overflow_sub-result-then-v-t c = (small-below _ _ _ (fine-at c.args.x _ c.f32_to_f64-w.ensures c.requires.gain_range c.requires.t) c.if-w.false c.truncating_f64_to_u64-t.ensures)
 
-pub overflow_sub-result-else-t-v : goal.overflow_sub-result-else-t-v
-overflow_sub-result-else-t-v c = omega (
+pub overflow_sub-result-else-v-t : goal.overflow_sub-result-else-v-t
+overflow_sub-result-else-v-t c = omega (
   arith,
   (small-below _ _ _ (fine-at c.args.x _ c.f32_to_f64-w.ensures c.requires.gain_range c.requires.t) c.if-w.false c.truncating_f64_to_u64-t.ensures),
 )
 
-pub returns-then-t-v : goal.returns-then-t-v
-returns-then-t-v c =
+pub returns-then-v-t : goal.returns-then-v-t
+returns-then-v-t c =
     let z : 38_399 - c.truncating_f64_to_u64-t.result ≡ 38_400 - (c.truncating_f64_to_u64-t.result + 1) = omega arith in (
-      z ∙ found_below true _ _ _ (fine-at c.args.x _ c.f32_to_f64-w.ensures c.requires.gain_range c.requires.t) c.if-w.false c.truncating_f64_to_u64-t.ensures c.if-t-v.true,
+      z ∙ found_below true _ _ _ (fine-at c.args.x _ c.f32_to_f64-w.ensures c.requires.gain_range c.requires.t) c.if-w.false c.truncating_f64_to_u64-t.ensures c.if-v-t.true,
       omega arith,
     )
 
-pub returns-else-t-v : goal.returns-else-t-v
-returns-else-t-v c =
+pub returns-else-v-t : goal.returns-else-v-t
+returns-else-v-t c =
     let z : 38_400 - c.truncating_f64_to_u64-t.result ≡ 38_400 - (c.truncating_f64_to_u64-t.result + 0) = omega arith in (
-      z ∙ found_below false _ _ _ (fine-at c.args.x _ c.f32_to_f64-w.ensures c.requires.gain_range c.requires.t) c.if-w.false c.truncating_f64_to_u64-t.ensures c.if-t-v.false,
+      z ∙ found_below false _ _ _ (fine-at c.args.x _ c.f32_to_f64-w.ensures c.requires.gain_range c.requires.t) c.if-w.false c.truncating_f64_to_u64-t.ensures c.if-v-t.false,
       omega arith,
     )
