@@ -14,14 +14,18 @@ use plc_pad::ORDER;
 use reply::Refused;
 
 // 24 coefficients from a channel's newest 1,024 samples; other lengths are refused, and lpc stays.
+#[tactic(auto, using(std::proofs::lemmas::Bool::Decides::nat_tests), unfolding(reply::specs::Reply::reply_if, crate::specs::Fit::fit_takes))]
 pub fn pitch_fit(new: &[f32], lpc: &mut [f32]) -> Result<(), Refused>
     ensures { replied result lpc.new
         ≡ reply_if (fit_takes (length new.now) (length lpc.old)) (pitch_fit new.now) lpc.old }
 {
-    if new.len() != HALF || lpc.len() != ORDER {
+    if lpc.len() != ORDER {
         return Err(Refused);
     }
-    let mut ac = celt_autocorr_windowed(new.try_into().unwrap(), &celt_window::window());
+    let Ok(new) = <&[f32; HALF]>::try_from(new) else {
+        return Err(Refused);
+    };
+    let mut ac = celt_autocorr_windowed(new, &celt_window::window());
     lag_window(&mut ac)?;
     celt_lpc(lpc, &ac)
 }

@@ -11,7 +11,7 @@ ghost use Rattle.plc_pad.specs.Pad.{Remembers, Holds, taps_row};
 use plc_pad::{NEWEST, ORDER};
 use reply::Refused;
 
-// The samples that are filtered at most.
+// The samples that are filtered at most: a limit of its own, whatever a history holds.
 const LONGEST: usize = 1024;
 
 // The samples of buf behind their memory.
@@ -25,7 +25,8 @@ fn padded(buf: &[f32], mem: &[f32]) -> [f32; ORDER + LONGEST]
     pad
 }
 
-// Adds to each of out's samples its taps in order; row by row, so that neighbouring samples run side by side. By place: tap j stands j places before the sample.
+// Adds to each of out's samples its taps in order; row by row, so that neighbouring samples run side by side.
+// By place: tap j stands j places before the sample.
 fn add_taps(out: &mut [f32], num: &[f32], pad: &[f32])
     requires { (length num.now ≤ 24) × (length pad.now ≡ length out.old + 24) }
     ensures { out.new
@@ -50,6 +51,7 @@ fn filter_from(buf: &mut [f32], from: usize, num: &[f32], mem: &[f32])
 
 // Filters from place `from` on; what stands before it stays. Three slices: buf is changed, and taps and memory have owners of their own.
 // mem, the inputs before the start with the most recent first, is as long as num, 24 at most, and buf 1,024 at most; else refused, and buf stays.
+#[tactic(auto, using(std::proofs::lemmas::Bool::Decides::nat_tests), unfolding(reply::specs::Reply::reply_if))]
 pub fn celt_fir_from(buf: &mut [f32], from: usize, num: &[f32], mem: &[f32]) -> Result<(), Refused>
     ensures { replied result buf.new
         ≡ reply_if (fir_takes (length num.now) (length mem.now) (length buf.old))

@@ -12,6 +12,7 @@ use plc_pad::{ORDER, less_taps};
 use reply::Refused;
 
 // Two channels of one length side by side: the second runs in the time of the first. Other lengths are refused, and both stay.
+#[tactic(auto, using(std::proofs::lemmas::Bool::Decides::nat_tests), unfolding(reply::specs::Reply::reply_if))]
 pub fn celt_iir_pair(
     a: &mut [f32],
     b: &mut [f32],

@@ -1,15 +1,17 @@
 -- the memory in a padded buffer, and what is read from it
 use mathlib.Core.Path.{◌≡◌, refl, ap, ◌∙◌, sym}
 use mathlib.Core.Bool.{Bool, true, false, cond}
-use mathlib.Core.List.{List}
+use mathlib.Core.List.{List, ◌++◌, reverse}
 use Prim.Native.Nat.{ℕ, zero, suc, ◌+◌, ◌-◌, ◌≤◌, ◌<◌}
 use native.Mathlib.Omega.{arith}
 use lib.Dec.{eqb, ltb}
-use lib.ListN.{length, get_or, take, drop, set, length-set, replicate, length-replicate}
-use lib.Seq.{get_or-take, get_or-drop, get_or-set_same, get_or-set_other}
+use lib.ListN.{length, get_or, take, drop, set, length-set, length-drop, length-append, length-reverse, get_or-append, replicate, length-replicate}
+use lib.Seq.{get_or-take, get_or-drop, get_or-append-add, length-take-le, ext_get_or, get_or-set_same, get_or-set_other}
+use Rattle.std.proofs.lemmas.List.{get_or-reverse}
 use lib.Ieee.{Float, nan, binary32, sub, mul}
 use borrow.Author.Tests.{eqb-true, eqb-false, ltb-true, ltb-false}
 use Rattle.std.proofs.lemmas.Bool.Decides.{nat_tests}
+use Rattle.loops.specs.Part.{put}
 use Rattle.loops.specs.Fold.{fold_to, fold_same, fold-keeps}
 use Rattle.reply.specs.Reply.{reply, reply_if, reply-lent, reply-taken}
 use Rattle.plc_pad.specs.Past.{past}
@@ -39,9 +41,79 @@ remembers_to mem pad zero h l i g = let z : ⊥ = omega arith in absurd z
 remembers_to mem pad (suc n) h l i g =
     remember_more mem (remembered_to mem pad n) n (remembers_to mem pad n (omega arith) l) (omega arith) (omega (arith, length_to mem pad n)) i (omega arith)
 
-pub remembered-all : (mem pad y : List Float) (k : ℕ) → y ≡ remembered_to mem pad k → k ≡ length mem → y ≡ remembered mem pad
+-- what stands where none of them comes stays
+kept_to : (mem pad : List Float) (n i : ℕ) → ((k : ℕ) → k < n → i ≡ 23 - k → ⊥) → get_or (remembered_to mem pad n) i nan ≡ get_or pad i nan
+unfolding fold_to
+kept_to mem pad zero i f = refl
+kept_to mem pad (suc n) i f =
+    get_or-set_other (remembered_to mem pad n) (23 - n) i (get_or mem n nan) nan (λ p. f n (omega arith) (omega arith))
+    ∙ kept_to mem pad n i (λ k h. f k (omega arith))
+
+-- the memory turned round before place 24
+module _ (mem pad y : List Float) (m : length mem ≤ 24) (l : 24 ≤ length pad) (e : y ≡ reverse mem) where
+  abbrev at : ℕ
+  at = 24 - length mem
+
+  size : length y ≡ length mem
+  size = ap length e ∙ length-reverse mem
+
+  before : length (take at pad) ≡ at
+  before = length-take-le at pad (omega arith)
+
+  put_read : (i : ℕ) → i < length (remembered_to mem pad (length mem)) → get_or (put at (length mem) y pad) i nan ≡ get_or (remembered_to mem pad (length mem)) i nan
+  put_read i g = go (ltb i at) (ltb i 24) refl refl
+    where
+      go : (b c : Bool) → ltb i at ≡ b → ltb i 24 ≡ c → get_or (put at (length mem) y pad) i nan ≡ get_or (remembered_to mem pad (length mem)) i nan
+      go true c p q =
+          let h : i < at = ltb-true i at p in
+          get_or-append (take at pad) (y ++ drop (length mem) (drop at pad)) nan i (omega (arith, before)) ∙ get_or-take at pad i nan h
+          ∙ sym (kept_to mem pad (length mem) i (λ k u v. omega arith))
+      go false true p q =
+          let h : at ≤ i = ltb-false i at p in
+          let h' : i < 24 = ltb-true i 24 q in
+          let j : ℕ = i - at in
+          let s : i ≡ length (take at pad) + j = omega (arith, before) in
+          let w : length mem - 1 - j ≡ 23 - i = omega arith in
+          let w' : 23 - (23 - i) ≡ i = omega arith in
+          ap (λ z. get_or (put at (length mem) y pad) z nan) s
+          ∙ get_or-append-add (take at pad) (y ++ drop (length mem) (drop at pad)) j nan
+          ∙ get_or-append y (drop (length mem) (drop at pad)) nan j (omega (arith, size))
+          ∙ ap (λ z. get_or z j nan) e ∙ get_or-reverse mem j nan (omega arith) ∙ ap (λ z. get_or mem z nan) w
+          ∙ sym (remembers_to mem pad (length mem) m l (23 - i) (omega arith))
+          ∙ ap (λ z. get_or (remembered_to mem pad (length mem)) z nan) w'
+      go false false p q =
+          let h : 24 ≤ i = ltb-false i 24 q in
+          let j : ℕ = i - 24 in
+          let s : i ≡ length (take at pad) + (length y + j) = omega (arith, before, size) in
+          let w : at + (length mem + j) ≡ i = omega arith in
+          ap (λ z. get_or (put at (length mem) y pad) z nan) s
+          ∙ get_or-append-add (take at pad) (y ++ drop (length mem) (drop at pad)) (length y + j) nan
+          ∙ get_or-append-add y (drop (length mem) (drop at pad)) j nan
+          ∙ get_or-drop (length mem) (drop at pad) j nan ∙ get_or-drop at pad (length mem + j) nan
+          ∙ ap (λ z. get_or pad z nan) w
+          ∙ sym (kept_to mem pad (length mem) i (λ k u v. omega arith))
+
+  put_size : length (put at (length mem) y pad) ≡ length (remembered_to mem pad (length mem))
+  put_size =
+      omega (
+        arith,
+        length-append (take at pad) (y ++ drop (length mem) (drop at pad)),
+        length-append y (drop (length mem) (drop at pad)),
+        length-drop (length mem) (drop at pad),
+        length-drop at pad,
+        before,
+        size,
+        length_to mem pad (length mem),
+      )
+
+  put_all : put at (length mem) y pad ≡ remembered_to mem pad (length mem)
+  put_all = ext_get_or nan _ _ put_size (λ i h. put_read i (omega (arith, put_size)))
+
+pub remembered-put : (mem pad x y : List Float) (n : ℕ) → length mem ≤ 24 → 24 ≤ length pad → n ≡ length mem → x ≡ mem → y ≡ reverse x
+    → put (24 - length mem) n y pad ≡ remembered mem pad
 unfolding remembered
-remembered-all mem pad y k e q = e ∙ ap (remembered_to mem pad) q
+remembered-put mem pad x y n m l p q r =
+    ap (λ z. put (24 - length mem) z y pad) p ∙ put_all mem pad y m l (r ∙ ap reverse q)
 
 pad-takes : (pad mem : ℕ) → 24 ≤ pad → mem ≤ 24 → pad_takes pad mem ≡ true
 pad-takes pad mem h l = grind (arith, nat_tests)

@@ -14,6 +14,7 @@ pub const ORDER: usize = 24;
 pub const NEWEST: usize = 23;
 
 // Puts mem, the most recent first, before place 24 of pad. More than 24 values and a shorter pad are refused, and pad stays.
+#[tactic(auto, using(std::proofs::lemmas::Bool::Decides::nat_tests), unfolding(reply::specs::Reply::reply_if))]
 pub fn remember(pad: &mut [f32], mem: &[f32]) -> Result<(), Refused>
     ensures { replied result pad.new
         ≡ reply_if (pad_takes (length pad.old) (length mem.now)) (remembered mem.now pad.old) pad.old }
@@ -21,9 +22,9 @@ pub fn remember(pad: &mut [f32], mem: &[f32]) -> Result<(), Refused>
     if pad.len() < ORDER || ORDER < mem.len() {
         return Err(Refused);
     }
-    for (k, value) in mem.iter().enumerate() {
-        pad[NEWEST - k] = *value;
-    }
+    let front = &mut pad[ORDER - mem.len()..ORDER];
+    front.copy_from_slice(mem);
+    front.reverse();
     Ok(())
 }
 
@@ -33,6 +34,7 @@ pub fn less_taps(den: &[f32; ORDER], past: &[f32; ORDER], x: f32) -> f32
     ensures { result ≡ taps_taken den.now past.now 0 x order }
 {
     let mut y = x;
+    // By place: tap j stands j places before the most recent value.
     for (j, d) in den.iter().enumerate() {
         y = y - *d * past[NEWEST - j];
     }

@@ -42,13 +42,14 @@ fn whitening(lp: &[f32; SAMPLES]) -> [f32; 4]
 }
 
 // Whitens 1,024 samples by their own predictor. Another number is refused, and they stay.
+#[tactic(auto, using(std::proofs::lemmas::Bool::Decides::nat_tests), unfolding(reply::specs::Reply::reply_if))]
 pub fn whiten(x_lp: &mut [f32]) -> Result<(), Refused>
     ensures { replied result x_lp.new ≡ reply_if (eqb (length x_lp.old) 1024) (whiten_lp x_lp.old) x_lp.old }
 {
-    if x_lp.len() != SAMPLES {
+    let Ok(x) = <&[f32; SAMPLES]>::try_from(&x_lp[..]) else {
         return Err(Refused);
-    }
-    let num = whitening(x_lp[..].try_into().unwrap());
+    };
+    let num = whitening(x);
     celt_fir_inplace(x_lp, &num, &[0.0; 4])?;
     celt_fir_inplace(x_lp, &[TILT], &[0.0])
 }

@@ -1,16 +1,9 @@
-use Rattle.std.proofs.lemmas.Bool.Decides.{nat_tests}
-use Rattle.std.proofs.Common.{◌≡◌, refl, ◌∙◌, arith, false, true, length, rules}
+use Rattle.std.proofs.Common.{◌≡◌, ◌∙◌, false, true, length, rules}
 use borrow.Author.Tests.{le-leb}
-use Rattle.reply.specs.Reply.{reply-no, reply-taken}
+use Rattle.reply.specs.Reply.{reply-taken}
 use Rattle.plc_lag_window.specs.LagWindow.{lag_window}
-use Rattle.pitch_fit.specs.Fit.{fit_takes}
 use Rattle.pitch_fit.proofs.Laws.{fit_is}
 use Rattle.pitch_fit.proofs.pitch_fit.Goals as goal
-
-pub returns-then-new-ne-HALF : goal.returns-then-new-ne-HALF
-unfolding fit_takes
-returns-then-new-ne-HALF c =
-    reply-no _ _ _ (grind (arith, nat_tests)) refl
 
 pub returns-in_err-lag_window : goal.returns-in_err-lag_window
 returns-in_err-lag_window c =
@@ -24,6 +17,6 @@ returns c =
     let w = c.window in
     let ac = c.celt_autocorr_windowed-ac in
     let b = c.lag_window in
+    let new = c.in-Ok.ensures.1 in
     fit_is a.new.now _ w.result ac.result b.new.ac a.lpc.now _ _ _ (search rules)
-    (rw c.unwrap.ensures at c.try_into.ensures.1).same
-    w.ensures ac.ensures b.ensures c.celt_lpc.ensures (search rules)
+    new.same w.ensures ac.ensures b.ensures c.celt_lpc.ensures new.long

@@ -1,11 +1,8 @@
-use Rattle.std.proofs.Common.{refl, arith, rules}
+use Rattle.std.proofs.Common.{arith, rules}
 use Rattle.std.proofs.lemmas.Bool.Decides.{nat_tests}
-use Rattle.reply.specs.Reply.{reply-yes, reply-no}
+use Rattle.reply.specs.Reply.{reply-yes}
 use Rattle.plc_fir.proofs.Firs.{fir_none}
 use Rattle.plc_fir.proofs.celt_fir_from.Goals as goal
-
-pub returns-then-num-mem : goal.returns-then-num-mem
-returns-then-num-mem c = reply-no _ _ _ (grind (arith, nat_tests)) refl
 
 pub returns-then-from-buf : goal.returns-then-from-buf
 returns-then-from-buf c = reply-yes _ _ _ (grind (arith, nat_tests)) c.filter_from.ensures

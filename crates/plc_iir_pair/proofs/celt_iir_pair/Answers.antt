@@ -1,16 +1,13 @@
 -- After i turns the first i outputs of either channel stand in its buffer, and behind its memory.
 use mathlib.Core.Path.{ap₂}
-use Rattle.std.proofs.Common.{refl, ◌∙◌, ◌+◌, ◌-◌, arith, rules}
+use Rattle.std.proofs.Common.{◌∙◌, ◌+◌, ◌-◌, arith, rules}
 use Rattle.std.proofs.lemmas.Bool.Decides.{nat_tests}
 use lib.Ieee.{binary32, of_bits}
-use Rattle.reply.specs.Reply.{reply-yes, reply-no}
+use Rattle.reply.specs.Reply.{reply-yes}
 use Rattle.plc_iir_pair.specs.Pair.{channels}
 use Rattle.plc_pad.proofs.Taps.{remember-taken, remembers_all, taps-part}
 use Rattle.plc_iir.proofs.Iirs.{filtered-none, filtered-more, filtered-all}
 use Rattle.plc_iir_pair.proofs.celt_iir_pair.Goals as goal
-
-pub returns-then-a-b : goal.returns-then-a-b
-returns-then-a-b c = reply-no _ _ _ (grind (arith, nat_tests)) refl
 
 pub unwrap-requires : goal.unwrap-requires
 unwrap-requires c = remember-taken c.args.mem_a.now 1224 (of_bits binary32 0) c.remember.ensures (search rules) (search rules)
