@@ -1,23 +1,23 @@
 -- What the steps make together: of the excitation, only its last two periods are read.
-use mathlib.Core.Path.{◌≡◌, refl, ap, ◌∙◌}
+use mathlib.Core.Path.{◌≡◌, refl, ap, ◌∙◌, sym}
 use mathlib.Core.Bool.{Bool, true, false, cond, ◌&&◌}
-use mathlib.Core.List.{List, ◌++◌}
-use Prim.Native.Nat.{ℕ, zero, suc, ◌+◌, ◌*◌, ◌-◌, ◌≤◌}
+use mathlib.Core.List.{List, [], ◌∷◌, ◌++◌}
+use Prim.Native.Nat.{ℕ, zero, suc, ◌+◌, ◌*◌, ◌-◌, ◌≤◌, ◌<◌}
 use native.Mathlib.Omega.{arith}
 use lib.Dec.{eqb, leb, ltb}
-use lib.ListN.{length, get_or, take, drop}
-use lib.Seq.{length-take-le, get_or-append-add, get_or-drop}
-use lib.Ieee.{Float, nan, binary32, mul, div}
+use lib.ListN.{length, get_or, take, drop, length-drop}
+use lib.Seq.{length-take-le, drop-cons, get_or-append-add, get_or-take, get_or-drop}
+use lib.Ieee.{Float, nan, binary32, add, mul, div}
 use Rattle.float_extremes.specs.Extremes.{min_of}
 use Rattle.float_root.specs.Root.{sqrt_of}
 use borrow.Author.Tests.{eqb-true, leb-true, eq-eqb, le-leb}
 use Rattle.loops.specs.Logic.{and-true}
 use Rattle.reply.specs.Reply.{reply, reply_if, reply-lent}
-use Rattle.buffers.specs.Buffers.{zero32}
+use Rattle.buffers.specs.Buffers.{zero32, one32, square_at}
 use Rattle.history.specs.History.{half}
 use Rattle.loops.specs.Fold.{fold_to}
 use Rattle.loops.specs.Front.{tab-same}
-use Rattle.loops.specs.Sum.{sum_same}
+use Rattle.loops.specs.Sum.{sum-none, sum_more, sum_same}
 use Rattle.plc_fir.specs.Fir.{celt_fir, celt_fir_from, fir_takes}
 use Rattle.periodic_copy.specs.Copy.{stepped, position_at, decay_at, periodic_copy, copied_energy, cycle, cycle_takes}
 use Rattle.excitation.specs.Decay.{longest_period, decay_period, period_energy, decay_of, pitch_decay}
@@ -125,6 +125,75 @@ pub repeat-is : (m from : ℕ) (new lpc mem exc e₀ e : List Float) (lag : ℕ)
     → reply t (cycle e s) ≡ reply_if (cycle_takes (length new) lag) (pitch_cycle m lpc mem new lag) (cycle e₀ zero32)
 repeat-is m from new lpc mem exc e₀ e lag d s t l q p1 p2 r =
     r ∙ reply-same _ _ _ _ (λ b. cycle-is m from new lpc mem exc lag d l (takes_lag (length new) lag b) q p1 p2)
+
+-- what is left of either period after k samples, and what those make
+pub record PeriodsAt (exc : List Float) (p : ℕ) (xs ys : List Float) (k : ℕ) (e1 e2 : Float) : Type 0 where
+  pub within : k ≤ p
+  pub first : xs ≡ drop k (take p (drop (half - p) exc))
+  pub second : ys ≡ drop k (take p (drop (half - 2 * p) exc))
+  pub newest : e1 ≡ period_energy exc (half - p) k
+  pub before : e2 ≡ period_energy exc (half - 2 * p) k
+
+-- the sample that comes next of a part
+left : (exc xs xs' : List Float) (p k at : ℕ) (x : Float) → k ≤ p → at + p ≤ length exc → xs ≡ drop k (take p (drop at exc)) → xs ≡ x ∷ xs'
+    → (k < p) × (xs' ≡ drop (k + 1) (take p (drop at exc))) × (x ≡ get_or exc (at + k) nan)
+left exc xs xs' p k at x w r e f =
+    let t : List Float = take p (drop at exc) in
+    let l : length t ≡ p = length-take-le p (drop at exc) (omega (arith, length-drop at exc)) in
+    let n : length xs' + 1 ≡ p - k = omega (arith, ap length (sym f ∙ e), length-drop k t, l) in
+    let g : k < length t = omega arith in
+    let d : x ∷ xs' ≡ get_or t k nan ∷ drop (suc k) t = sym f ∙ e ∙ drop-cons t k nan g in
+    let j : suc k ≡ k + 1 = omega arith in (
+      omega arith,
+      ap (drop 1) d ∙ ap (λ z. drop z t) j,
+      ap (λ z. get_or z 0 nan) d ∙ get_or-take p (drop at exc) k nan (omega arith) ∙ get_or-drop at exc k nan,
+    )
+
+module _ (exc : List Float) (p : ℕ) (l : length exc ≡ half) (h : p ≤ longest_period) where
+  pub periods-none : (xs ys : List Float) (m n : ℕ) → m ≡ p → n ≡ p → xs ≡ take m (drop (half - p) exc) → ys ≡ take n (drop (half - 2 * p) exc) → PeriodsAt exc p xs ys 0 one32 one32
+  unfolding period_energy
+  periods-none xs ys m n r q e f = record {
+    within = omega arith;
+    first = e ∙ ap (λ z. take z (drop (half - p) exc)) r;
+    second = f ∙ ap (λ z. take z (drop (half - 2 * p) exc)) q;
+    newest = sym (sum-none _ _ _);
+    before = sym (sum-none _ _ _);
+  }
+
+  pub periods-more : (xs ys xs' ys' : List Float) (k j : ℕ) (e1 e2 a b : Float) → j ≡ k + 1 → PeriodsAt exc p xs ys k e1 e2 → xs ≡ a ∷ xs' → ys ≡ b ∷ ys'
+      → PeriodsAt exc p xs' ys' j (add binary32 e1 (mul binary32 a a)) (add binary32 e2 (mul binary32 b b))
+  unfolding period_energy
+  periods-more xs ys xs' ys' k j e1 e2 a b q at e f =
+      let u = left exc xs xs' p k (half - p) a at.within (omega arith) at.first e in
+      let v = left exc ys ys' p k (half - 2 * p) b at.within (omega arith) at.second f in
+      record {
+        within = omega (arith, u.0);
+        first = u.1 ∙ ap (λ z. drop z (take p (drop (half - p) exc))) (sym q);
+        second = v.1 ∙ ap (λ z. drop z (take p (drop (half - 2 * p) exc))) (sym q);
+        newest =
+            ap (λ z. add binary32 e1 (mul binary32 z z)) u.2 ∙ sum_more binary32 (λ (i : ℕ). square_at exc (half - p + i)) _ _ _ at.newest
+            ∙ ap (period_energy exc (half - p)) (sym q);
+        before =
+            ap (λ z. add binary32 e2 (mul binary32 z z)) v.2 ∙ sum_more binary32 (λ (i : ℕ). square_at exc (half - 2 * p + i)) _ _ _ at.before
+            ∙ ap (period_energy exc (half - 2 * p)) (sym q);
+      }
+
+  pub periods-level : (xs ys : List Float) (k : ℕ) (e1 e2 : Float) → PeriodsAt exc p xs ys k e1 e2 → length xs ≡ length ys
+  periods-level xs ys k e1 e2 at =
+      omega (
+        arith,
+        ap length at.first,
+        ap length at.second,
+        length-drop k (take p (drop (half - p) exc)),
+        length-drop k (take p (drop (half - 2 * p) exc)),
+        length-take-le p (drop (half - p) exc) (omega (arith, length-drop (half - p) exc)),
+        length-take-le p (drop (half - 2 * p) exc) (omega (arith, length-drop (half - 2 * p) exc)),
+      )
+
+  pub periods-all : (xs ys : List Float) (k : ℕ) (e1 e2 : Float) → PeriodsAt exc p xs ys k e1 e2 → xs ≡ [] → k ≡ p
+  periods-all xs ys k e1 e2 at e =
+      let t : List Float = take p (drop (half - p) exc) in
+      omega (arith, at.within, ap length (sym e ∙ at.first), length-drop k t, length-take-le p (drop (half - p) exc) (omega (arith, length-drop (half - p) exc)))
 
 -- the decay, from the energies that a loop over a period leaves
 pub decay_is : (exc : List Float) (lag p i : ℕ) (e1 e2 low r : Float) → p ≡ decay_period lag → e1 ≡ period_energy exc (half - p) i

@@ -25,10 +25,8 @@ pub(crate) fn pitch_decay(exc: &[f32; HALF], lag: usize) -> f32
     let old = HALF - 2 * period;
     let mut e1 = 1.0f32;
     let mut e2 = 1.0f32;
-    // By place: both periods in one loop, so that their sums run side by side.
-    for i in 0..period {
-        let a = exc[new + i];
-        let b = exc[old + i];
+    // Both periods in one loop, so that their sums run side by side.
+    for (a, b) in exc[new..].iter().zip(&exc[old..new]) {
         e1 += a * a;
         e2 += b * b;
     }

@@ -18,6 +18,7 @@ use plc_iir_pair::celt_iir_pair;
 use plc_pad::ORDER;
 use reply::Refused;
 
+// What is extrapolated at most: as many as plc_iir filters, which refuses more.
 pub const LONGEST: usize = LONGEST_FRAME + EXTRA;
 
 // `first` answers a question, whether the loss before was none: a bool, since a caller has it as a comparison, `loss_count == 0`.
@@ -28,7 +29,7 @@ fn fade_of(first: bool) -> f32
     if first { 1.0 } else { 0.8 }
 }
 
-// The newest 24, the most recent first: both filters' memory.
+// The newest 24, the most recent first, as the filters' contracts count their memory.
 fn most_recent(new: &[f32]) -> [f32; ORDER]
     requires { length new.now ≡ half }
     ensures { result ≡ recent new.now }

@@ -12,7 +12,7 @@ use plc_downsample::pitch_downsample;
 use plc_search::pitch_search;
 use reply::Refused;
 
-// The longest lag.
+// The longest lag: the same as state's, neither crate below the other.
 const LAG_MOST: usize = 720;
 
 // What the search reads: the used channels' 2,048 samples at half the rate.

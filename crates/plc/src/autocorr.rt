@@ -26,7 +26,8 @@ fn first_terms(x: &[f32], row: &mut [f32])
     }
 }
 
-// The other terms: at each sample one of every lag, so that the sums run side by side, each in its own order. By place: sum j meets sample i - top + j.
+// The other terms: at each sample one of every lag, so that the sums run side by side, each in its own order.
+// By place: the sums' earlier samples, one a lag, stand from top places before the sample on.
 fn other_terms(x: &[f32], row: &mut [f32])
     requires { (0 < length row.old) × (length row.old ≤ length x.now) × (row.old ≡ lag_row x.now (length row.old) (length row.old - 1)) }
     ensures { row.new ≡ lag_row x.now (length row.old) (length x.now) }
