@@ -5,7 +5,10 @@
 ghost use Rattle.std.specs.Prelude.{◌≡◌};
 ghost use Rattle.cosine_table.specs.Cosines.{cosines};
 
-const COSINES: [f64; 1921] = [
+// How many parts of the circle a quarter has: an entry at each, and one at its end.
+pub const QUARTER: usize = 1_920;
+
+const COSINES: [f64; QUARTER + 1] = [
     1.0,
     0.999999665337326,
     0.9999986613495281,
@@ -1930,7 +1933,7 @@ const COSINES: [f64; 1921] = [
 ];
 
 // The table, by value: whoever reads it often takes it once and lends it.
-pub fn cosines() -> [f64; 1921]
+pub fn cosines() -> [f64; QUARTER + 1]
     ensures { result ≡ cosines }
 {
     COSINES

@@ -7,7 +7,7 @@ ghost use Rattle.reply.specs.Reply.{replied};
 ghost use Rattle.cosine_circle.specs.Circle.{is_frame_size, IsCircle};
 ghost use Rattle.mdct.specs.Imdct.{half_of, imdct, imdct_takes, imdct_reply, imdct_sum};
 
-use cosine_circle::{circle, is_frame_size};
+use cosine_circle::{STEPS, circle, is_frame_size};
 use float_bits::formats::f32_to_f64;
 use float_narrow::f64_to_f32;
 use reply::Refused;
@@ -33,7 +33,8 @@ fn along(first: usize, by: usize, w: usize) -> [usize; 8]
 }
 
 // Adds an input v to eight sums, each times the cosine at its place.
-fn add_terms(circle: &[f64; 3840], v: f64, at: &[usize; 8], acc: &mut [f64; 8])
+// In this loop and the two below the second list is read by number: of `iter_mut().zip(..)` a proof knows the items alone, not the list that they leave.
+fn add_terms(circle: &[f64; STEPS], v: f64, at: &[usize; 8], acc: &mut [f64; 8])
     requires by_index { (j : ℕ) → j < 8 → get_or at.now j 0 < 3840 }
     ensures { acc.new
         ≡ tab (λ j. add binary64 (get_or acc.old j nan) (mul binary64 v (get_or circle.now (get_or at.now j 0) nan))) 8 }
@@ -67,7 +68,7 @@ fn halves(sums: &[f64; 8], out: &mut [f32])
 // The inputs of a frame, beside the circle of cosines for their number.
 #[derive(Clone, Copy)]
 struct Frame<'a> {
-    circle: &'a [f64; 3840],
+    circle: &'a [f64; STEPS],
     x: &'a [f32],
     ghost circle_is: { IsCircle (length x.now) circle.now },
     ghost frame: { is_frame_size (length x.now) ≡ true },

@@ -19,6 +19,7 @@ pub(crate) struct Sums {
 }
 
 // Adds a pair of inputs to four pairs of sums, each times the pair of cosines at its place.
+// Not the functions of `mdct`: sums in pairs read two tables by pairs, go other steps, and are taken back into the circle once in two of them.
 fn add_terms(pairs: &[f64], inputs: &[f64], i: usize, at: &[usize; 4], acc: &mut [f64; 8])
     requires places { (i + 2 ≤ length inputs.now) × (length pairs.now ≤ 11520) }
     requires by_index { (j : ℕ) → j < 4 → get_or at.now j 0 + 2 ≤ length pairs.now }
@@ -90,6 +91,7 @@ impl Tables<'_> {
         let mut at = first_places(t, n);
         let mut acc = [0.0f64; 8];
         let mut products = 0;
+        // by place: a turn reads four places of the inputs
         for h in 0..half {
             add_terms(self.pairs, self.inputs, 4 * h, &at, &mut acc);
             onward(step, &mut at);
