@@ -16,6 +16,7 @@ use reply::Refused;
 
 mod block;
 
+// As `settings` has it in 32 bits; here lm is a caller's plain count, and an lm past it is refused, where `sizes` takes it for 3.
 const LM_MOST: usize = 3;
 
 // The longest block: the longest frame and its overlap.
@@ -29,6 +30,7 @@ fn factor(lm: usize) -> usize
 }
 
 // lm 0 to 3, a span that fits and has a band, 25 energies, and N + 120 samples.
+#[tactic(auto, using(std::proofs::lemmas::Bool::Decides::nat_tests), unfolding(crate::specs::Call::block_takes, crate::specs::Call::settings_fit, noise_spectrum::specs::Spectrum::span_fits))]
 fn block_takes(lm: usize, span: Span, energies: usize, size: usize) -> bool
     ensures { result ≡ block_takes lm span.start span.end span.downsample energies size }
 {
@@ -62,6 +64,6 @@ pub fn noise_block(
     let u = &mut outputs[..2 * n];
     let after = noise_spectrum(spectrum, m, span, seed, energies)?;
     imdct_mirrored_f32(spectrum, u)?;
-    window_outputs(block, u, n);
+    window_outputs(block, u);
     Ok(after)
 }

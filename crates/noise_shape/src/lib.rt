@@ -33,6 +33,7 @@ fn shape_each(bins: &mut [f32], m: usize, start: usize, seed: u32) -> u32
     ensures { (result ≡ (noise_shape m start seed bins.old).seed) × (bins.new ≡ (noise_shape m start seed bins.old).bins) }
 {
     let mut s = seed;
+    // By number: a band's edges are its number's and the next one's.
     for i in start..BANDS {
         let a = m * band_edge(i);
         let e = m * band_edge(i + 1);
@@ -42,6 +43,7 @@ fn shape_each(bins: &mut [f32], m: usize, start: usize, seed: u32) -> u32
 }
 
 // A block factor of at most 8, a start of at most 21, and bins for all bands.
+#[tactic(auto, using(std::proofs::lemmas::Bool::Decides::nat_tests), unfolding(crate::specs::Shape::shape_takes))]
 fn shape_fits(m: usize, start: usize, size: usize) -> bool
     ensures { result ≡ shape_takes m start size }
 {

@@ -52,6 +52,7 @@ impl Bands {
         requires { (self.m * last_edge ≤ length bins.old) × (length energies.now ≡ max_bands) }
         ensures { bins.new ≡ fold_range (gain_turn self.m energies.now) bins.old self.span.start self.span.end }
     {
+        // By number: a band's edges are its number's and the next one's.
         for i in self.span.start..self.span.end {
             let g = band_gain(energies[i], mean_energy(i));
             let a = self.m * band_edge(i);
@@ -75,6 +76,7 @@ impl Bands {
 }
 
 // A block factor of at most 8, a span that fits, 25 energies, and 120 m bins.
+#[tactic(auto, using(std::proofs::lemmas::Bool::Decides::nat_tests), unfolding(crate::specs::Spectrum::spectrum_takes, crate::specs::Spectrum::spectrum_fits))]
 fn spectrum_takes(m: usize, span: Span, energies: usize, size: usize) -> bool
     ensures { result ≡ spectrum_takes m span.start span.end span.downsample energies size }
 {
@@ -82,6 +84,7 @@ fn spectrum_takes(m: usize, span: Span, energies: usize, size: usize) -> bool
 }
 
 // A channel's spectrum from its 25 energies, over 120 m bins, which come as zeros: answers the seed after all draws.
+#[tactic(auto, using(crate::proofs::Calls::takes))]
 pub fn noise_spectrum(
     bins: &mut [f32],
     m: usize,

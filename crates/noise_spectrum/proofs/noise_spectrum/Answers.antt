@@ -23,21 +23,6 @@ invariant_of-drawn c =
     let f = takes c.args.m _ _ _ _ _ (sym c.spectrum_takes.ensures ∙ c.if-not-spectrum_takes.false) in
     record { small = f.0.small; some = f.0.some; last = f.0.last; every = f.0.every }
 
-pub apply_gains-requires : goal.apply_gains-requires
-apply_gains-requires c =
-    let f = takes c.args.m _ _ _ _ _ (sym c.spectrum_takes.ensures ∙ c.if-not-spectrum_takes.false) in
-    search rules
-
-pub slice_bounds-fill-count : goal.slice_bounds-fill-count
-slice_bounds-fill-count c =
-    let f = takes c.args.m _ _ _ _ _ (sym c.spectrum_takes.ensures ∙ c.if-not-spectrum_takes.false) in
-    search rules
-
-pub slice_bounds-fill-start : goal.slice_bounds-fill-start
-slice_bounds-fill-start c =
-    let f = takes c.args.m _ _ _ _ _ (sym c.spectrum_takes.ensures ∙ c.if-not-spectrum_takes.false) in
-    search rules
-
 pub returns : goal.returns
 returns c =
     let a = c.args in
