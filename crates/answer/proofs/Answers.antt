@@ -5,8 +5,8 @@ use mathlib.Core.List.{List, [], ◌∷◌, ◌++◌}
 use Prim.Native.Nat.{ℕ, ◌*◌, ◌≤◌}
 use native.Mathlib.Omega.{arith}
 use lib.ListN.{length, take, drop, length-append}
-use lib.Seq.{take_at, take-length}
-use Rattle.std.specs.Prelude.{Result, Ok, Err}
+use lib.Seq.{take_at}
+use Rattle.std.specs.Prelude.{Result, Ok, Err, slice_index_or}
 use Rattle.std.proofs.lemmas.Bool.Decides.{nat_tests}
 use lib.Dec.{eqb}
 use lib.Ieee.{Float}
@@ -20,7 +20,7 @@ use Rattle.reply.specs.Reply.{Reply, reply, reply_if, replied, value_or, reply-l
 use Rattle.settings.specs.declared.Refusal.{Refusal}
 use Rattle.settings.specs.Number.{number_of}
 use Rattle.settings.proofs.Table.{number_low}
-use Rattle.state.specs.Answer.{kind_of}
+use Rattle.state.specs.Answer.{report_of, answer_words}
 use Rattle.state.specs.declared.Answer.{Answer}
 use Rattle.state.specs.declared.State.{State}
 use Rattle.loss.specs.Loss.{loss, outcome_of, in_buffer}
@@ -48,6 +48,11 @@ pub outcome-from : (b : List ℕ) (s : State) (h : List Float) (m n : ℕ) → s
 unfolding loss_of history_of
 outcome-from b s h m n e f g k = λ i. loss (e i) ((f ∙ ap (floats_at b 161) g) i) (k i)
 
+-- the record after a call, which left the history g
+abbrev pub left : List ℕ → List Float → Result Answer Refusal → List ℕ
+left b g (Ok a) = record_of a.state g
+left b g (Err e) = b
+
 -- what the steps leave, from what the call left
 module _ (b lent : List ℕ) (room : head_most ≤ length lent) where
   abbrev answered : Reply Answered
@@ -68,37 +73,48 @@ module _ (b lent : List ℕ) (room : head_most ≤ length lent) where
       λ i. reply (taken i) (with_record (bytes i) (kept i))
 
   module _ (p q g : List Float) where
-    module _ (a : Answer) (made : outcome_of (state_of b) (Ok a) q g ≡ in_buffer p (loss_of b)) where
-      samples-are : a.samples ≡ (loss_of b).report.samples
+    abbrev call_of : Result Answer Refusal → Type 0
+    call_of t = outcome_of (state_of b) t q g ≡ in_buffer p (loss_of b)
+
+    pub left-is : (t : Result Answer Refusal) → call_of t → left b g t ≡ record_after b
+    unfolding record_after in_buffer
+    left-is (Ok a) m = λ i. cond (eqb (m i).report.number 0) (record_of (m i).state (m i).history) b
+    left-is (Err e) m =
+        let o = loss_of b in
+        sym (pick-false (eqb (number_of e) 0) (record_of o.state o.history) b (ne_eqb (number_of e) 0 (number_low e)))
+        ∙ (λ i. cond (eqb (m i).report.number 0) (record_of o.state o.history) b)
+
+    module _ (t : Result Answer Refusal) (made : call_of t) where
+      pub samples-most : (report_of t).samples ≤ samples_most
       unfolding in_buffer
-      samples-are = ap (λ z. z.report.samples) made
+      samples-most = omega (arith, ap (λ z. z.report.samples) made, (outcome-samples b).1)
 
-      pub samples-most : a.samples ≤ samples_most
-      samples-most = omega (arith, samples-are, (outcome-samples b).1)
+      -- the call's three words
+      module _ (w : List ℕ) (f : w ≡ answer_words (report_of t)) where
+        words-are : w ≡ answer_words (loss_of b).report
+        unfolding in_buffer
+        words-are = f ∙ ap (λ z. answer_words z.report) made
 
-      pub accepted-is : (kind : ℕ) (r : Result ℕ Refused) (h rec : List ℕ) → kind ≡ kind_of a.kind → rec ≡ record_of a.state g
-          → replied r (headed (value_or 0 r) h)
-          ≡ reply_if (head_fits (length (take a.samples q)) (length (take a.samples q)) (length lent)) (head_written 0 kind (length (take a.samples q)) (take a.samples q) lent) (headed 0 lent)
-          → replied r (with_record (headed (value_or 0 r) h) rec) ≡ answered
-      unfolding record_after in_buffer
-      accepted-is kind r h rec k kept wrote =
-          let o = loss_of b in
-          let t : take a.samples q ≡ o.pcm = ap (λ z. take a.samples z.pcm) made ∙ front-taken o.pcm p a.samples ((outcome-samples b).0 ∙ sym samples-are) in
-          with_head 0 kind _ r h rec (ap (λ z. z.report.number) made) (k ∙ ap (λ z. z.report.kind) made) t
-          (kept ∙ (λ i. cond (eqb (made i).report.number 0) (record_of (made i).state (made i).history) b)) wrote
+        abbrev word : ℕ → ℕ
+        word i = slice_index_or w i 0
 
-    module _ (e : Refusal) (made : outcome_of (state_of b) (Err e) q g ≡ in_buffer p (loss_of b)) where
-      pub refused-is : (number : ℕ) (r : Result ℕ Refused) (h : List ℕ) → number ≡ number_of e
-          → replied r (headed (value_or 0 r) h) ≡ reply_if (head_fits 0 0 (length lent)) (head_written number 0 0 [] lent) (headed 0 lent)
-          → replied r (with_record (headed (value_or 0 r) h) b) ≡ answered
-      unfolding record_after in_buffer
-      refused-is number r h n wrote =
-          let o = loss_of b in
-          let none : [] ≡ o.pcm = ap (λ m. take m o.pcm) (ap (λ z. z.report.samples) made ∙ sym (outcome-samples b).0) ∙ take-length o.pcm in
-          let kept : b ≡ record_after b =
-          sym (pick-false (eqb (number_of e) 0) (record_of o.state o.history) b (ne_eqb (number_of e) 0 (number_low e)))
-          ∙ (λ i. cond (eqb (made i).report.number 0) (record_of o.state o.history) b) in
-          with_head number 0 [] r h b (n ∙ ap (λ z. z.report.number) made) (ap (λ z. z.report.kind) made) none kept wrote
+        abbrev sound : List Float
+        sound = take (word 2) q
+
+        pub count-most : word 2 ≤ samples_most
+        count-most = omega (arith, ap (λ z. slice_index_or z 2 0) words-are, (outcome-samples b).1)
+
+        pub step-written : (r : Result ℕ Refused) (h rec : List ℕ) → rec ≡ left b g t
+            → replied r (headed (value_or 0 r) h)
+            ≡ reply_if (head_fits (length sound) (length sound) (length lent)) (head_written (word 0) (word 1) (length sound) sound lent) (headed 0 lent)
+            → replied r (with_record (headed (value_or 0 r) h) rec) ≡ answered
+        unfolding in_buffer
+        step-written r h rec e wrote =
+            let o = loss_of b in
+            let size : word 2 ≡ o.report.samples = ap (λ z. slice_index_or z 2 0) words-are in
+            let x : sound ≡ o.pcm = ap (λ z. take (word 2) z.pcm) made ∙ front-taken o.pcm p (word 2) ((outcome-samples b).0 ∙ sym size) in
+            with_head (word 0) (word 1) sound r h rec (ap (λ z. slice_index_or z 0 0) words-are) (ap (λ z. slice_index_or z 1 0) words-are) x
+            (e ∙ left-is t made) wrote
 
 -- the public step
 module _ (b h : List ℕ) where

@@ -14,13 +14,7 @@ use answer_head::{HEAD_BYTES, SAMPLES_MOST, write_head};
 use put_record::write_record;
 use reply::Refused;
 use settings::Refusal;
-use state::Answer;
-
-// Document 01's number of an accepted call, and what a refused one has for a kind: a head's bytes are numbers, which
-// `Refusal` and `Kind` know only of what they name.
-const ACCEPTED: u32 = 0;
-
-const NO_KIND: u32 = 0;
+use state::{Answer, report};
 
 // One loss on a record's state and history.
 fn conceal_record(rec: &[u8], history: &mut [f32], pcm: &mut [f32]) -> Result<Answer, Refusal>
@@ -39,13 +33,12 @@ fn answer(rec: &mut [u8], head: &mut [u8]) -> Result<usize, Refused>
 {
     let mut history = [0.0f32; history::WHOLE];
     let mut pcm = [0.0f32; SAMPLES_MOST];
-    match conceal_record(rec, &mut history, &mut pcm) {
-        Ok(a) => {
-            write_record(rec, a.state, &history)?;
-            write_head(head, ACCEPTED, u32::from(a.kind), &pcm[..a.samples])
-        }
-        Err(e) => write_head(head, u32::from(e), NO_KIND, &[]),
+    let call = conceal_record(rec, &mut history, &mut pcm);
+    let words = report(&call);
+    if let Ok(a) = call {
+        write_record(rec, a.state, &history)?;
     }
+    write_head(head, words[0], words[1], &pcm[..words[2] as usize])
 }
 
 // One record's step: the record becomes the one after its loss, and `head` starts with number, kind, sample count and

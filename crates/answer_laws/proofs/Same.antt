@@ -13,7 +13,8 @@ use Rattle.state_words.proofs.Parts.{state-same}
 use Rattle.record.specs.Record.{state_of, history_of, state_bytes, record_of}
 use Rattle.loss.specs.Loss.{Outcome, loss, in_buffer}
 use Rattle.loss.proofs.Samples.{loss-samples}
-use Rattle.direct.specs.Direct.{answer_words, called_with, loss_in}
+use Rattle.direct.specs.Direct.{called_with, loss_in}
+use Rattle.state.specs.Answer.{answer_words}
 use Rattle.answer_head.specs.Head.{samples_most}
 use Rattle.answer.specs.Answer.{loss_of, head_of, record_after}
 use Rattle.answer.proofs.Answers.{front-taken}

@@ -1,5 +1,5 @@
 -- What a call on a caller's memory leaves, from what `decode_lost` left.
-use Rattle.std.proofs.Common.{◌≡◌, ℕ, ◌≤◌, List, [], ◌∷◌, length, Ok, Err, ap, sym, subst, ◌∙◌}
+use Rattle.std.proofs.Common.{◌≡◌, ℕ, ◌≤◌, List, length, arith, Result, Ok, Err, slice_index_or, ap, sym, ◌∙◌}
 use lib.Ieee.{Float}
 use lib.Dec.{eqb}
 use borrow.Author.Tests.{ne_eqb}
@@ -9,29 +9,30 @@ use Rattle.settings.specs.Number.{number_of}
 use Rattle.settings.proofs.Table.{number_low}
 use Rattle.state.specs.declared.State.{State}
 use Rattle.state.specs.declared.Answer.{Answer}
-use Rattle.state.specs.Answer.{kind_of}
+use Rattle.state.specs.Answer.{report_of, answer_words}
 use Rattle.loss.specs.Loss.{loss, outcome_of, in_buffer}
 use Rattle.loss.proofs.Samples.{loss-samples}
 use Rattle.state_words.specs.Words.{state_in, state_words}
 use Rattle.direct.specs.Direct.{called, called_with, loss_in}
 
+-- the state's words after a call, from those before it
+abbrev pub left : List ℕ → Result Answer Refusal → List ℕ
+left ws (Ok a) = state_words a.state
+left ws (Err e) = ws
+
 module _ (s : State) (h p q g : List Float) (ws : List ℕ) (from : s ≡ state_in ws) where
   lost : in_buffer p (loss s h (length p)) ≡ in_buffer p (loss (state_in ws) h (length p))
   lost = ap (λ z. in_buffer p (loss z h (length p))) from
 
-  module _ (a : Answer) (made : outcome_of s (Ok a) q g ≡ in_buffer p (loss s h (length p))) where
-    pub samples-most : a.samples ≤ 1920
-    unfolding in_buffer
-    samples-most = subst (λ (n : ℕ). n ≤ 1920) (sym (ap (λ o. o.report.samples) made)) (loss-samples s h (length p)).1
+  pub samples-fit : (r : Result Answer Refusal) → outcome_of s r q g ≡ in_buffer p (loss s h (length p)) → (report_of r).samples ≤ 4_294_967_295
+  unfolding in_buffer
+  samples-fit (Ok a) m = omega (arith, ap (λ o. o.report.samples) m, (loss-samples s h (length p)).1)
+  samples-fit (Err e) m = omega arith
 
-    pub accepted-is : (st : List ℕ) (kind : ℕ) → st ≡ state_words a.state → kind ≡ kind_of a.kind
-        → called 0 (0 ∷ kind ∷ a.samples ∷ []) st q g ≡ loss_in ws h p
-    unfolding called_with loss_in
-    accepted-is st kind e f = (λ i. called 0 (0 ∷ f i ∷ a.samples ∷ []) (e i) q g) ∙ ap (called_with ws) (made ∙ lost)
-
-  module _ (e : Refusal) (made : outcome_of s (Err e) q g ≡ in_buffer p (loss s h (length p))) where
-    pub refused-is : (number : ℕ) → number ≡ number_of e → called number (number ∷ 0 ∷ 0 ∷ []) ws q g ≡ loss_in ws h p
-    unfolding called_with loss_in
-    refused-is number f =
-        let kept = sym (pick-false (eqb (number_of e) 0) (state_words s) ws (ne_eqb (number_of e) 0 (number_low e))) in
-        (λ i. called (f i) (f i ∷ 0 ∷ 0 ∷ []) (kept i) q g) ∙ ap (called_with ws) (made ∙ lost)
+  pub call-is : (r : Result Answer Refusal) → outcome_of s r q g ≡ in_buffer p (loss s h (length p)) → (w st : List ℕ)
+      → w ≡ answer_words (report_of r) → st ≡ left ws r → called (slice_index_or w 0 0) w st q g ≡ loss_in ws h p
+  unfolding called_with loss_in
+  call-is (Ok a) m w st f e = (λ i. called (slice_index_or (f i) 0 0) (f i) (e i) q g) ∙ ap (called_with ws) (m ∙ lost)
+  call-is (Err x) m w st f e =
+      let kept = sym (pick-false (eqb (number_of x) 0) (state_words s) ws (ne_eqb (number_of x) 0 (number_low x))) in
+      (λ i. called (slice_index_or (f i) 0 0) (f i) ((e ∙ kept) i) q g) ∙ ap (called_with ws) (m ∙ lost)

@@ -1,6 +1,6 @@
 -- One loss on a caller's own memory: the state as its 161 words, the history, the PCM buffer and the answer's three words.
-use Rattle.std.specs.Prelude.{cond, List, [], ◌∷◌, ℕ, length, eqb, Float}
-use Rattle.state.specs.Answer.{Report}
+use Rattle.std.specs.Prelude.{cond, List, ℕ, length, eqb, Float}
+use Rattle.state.specs.Answer.{answer_words}
 use Rattle.loss.specs.Loss.{Outcome, loss, in_buffer}
 use Rattle.state_words.specs.Words.{state_in, state_words}
 
@@ -11,10 +11,6 @@ pub record Called : Type 0 where
   pub state : List ℕ
   pub pcm : List Float
   pub history : List Float
-
--- number, kind and sample count
-abbrev pub answer_words : Report → List ℕ
-answer_words r = r.number ∷ r.kind ∷ r.samples ∷ []
 
 -- an outcome, the words before it being ws: those of a refused state stay as they are
 unfoldable pub called_with : List ℕ → Outcome → Called

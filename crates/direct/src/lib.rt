@@ -6,10 +6,8 @@ ghost use Rattle.std.specs.Prelude.{◌≡◌};
 ghost use Rattle.direct.specs.Direct.{called, loss_in};
 
 use put_state_words::to_words;
+use state::report;
 use state_words::{WORDS, from_words};
-
-// Document 01's number of an accepted call. By number: the words are another language's to read.
-const ACCEPTED: u32 = 0;
 
 // Conceals one lost frame: `state` is the words of a state in document 01's order, `history` 4,336 samples, and `answer`
 // becomes number, kind and sample count. The number is returned too; with any but 0 state, history and PCM stay.
@@ -22,16 +20,10 @@ pub fn decode_lost(
     ensures { called result answer.new state.new pcm.new history.new
         ≡ loss_in state.old history.old pcm.old }
 {
-    match ref_decode::decode_lost(from_words(state), history, pcm) {
-        Ok(a) => {
-            *state = to_words(a.state);
-            *answer = [ACCEPTED, u32::from(a.kind), a.samples as u32];
-            ACCEPTED
-        }
-        Err(e) => {
-            let number = u32::from(e);
-            *answer = [number, 0, 0];
-            number
-        }
+    let call = ref_decode::decode_lost(from_words(state), history, pcm);
+    *answer = report(&call);
+    if let Ok(a) = call {
+        *state = to_words(a.state);
     }
+    answer[0]
 }

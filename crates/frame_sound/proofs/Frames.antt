@@ -6,9 +6,9 @@ use Prim.Native.Nat.{ℕ, ◌+◌, ◌*◌, ◌-◌, ◌/◌, ◌%◌, ◌≤◌
 use native.Mathlib.Omega.{arith}
 use lib.ListN.{length, take, drop}
 use lib.Seq.{slice, length-slice}
-use lib.Dec.{eqb, lit≤}
+use lib.Dec.{lit≤}
 use lib.Ieee.{Float}
-use borrow.Author.Tests.{le-leb, eq-eqb, ne_eqb}
+use borrow.Author.Tests.{le-leb, eq-eqb, eqb-true, eqb-false}
 use Rattle.loops.specs.Logic.{and_both}
 use Rattle.reply.specs.Reply.{reply, reply_if, reply-lent, reply-taken, reply-yes}
 use Rattle.history.specs.History.{samples, channel, whole, both, newest}
@@ -55,31 +55,29 @@ module _ (k : Settings) (good : check_settings k ≡ 0) (h : List Float) (l : le
     needs : (c : ℕ) → k.channels ≡ c → c * (frame k / k.downsample) ≤ length p
     needs c e = subst (λ z. z * (frame k / k.downsample) ≤ length p) e (subst (λ z. z ≤ length p) (needed-is k good) room)
 
-    pub mono-sound : (k.channels ≡ 2 → ⊥) → {t : Bool} {y : Sound} → reply t y ≡ deemphasis_mono k.downsample (lent samples) m p → (t ≡ true) × (y ≡ sound_in p (frame_sound k m h))
+    pub mono-sound : stereo k ≡ false → {t : Bool} {y : Sound} → reply t y ≡ deemphasis_mono k.downsample (lent samples) m p → (t ≡ true) × (y ≡ sound_in p (frame_sound k m h))
     unfolding deemphasis_mono deemphasised sound_in frame_sound newest stereo
     mono-sound c e =
-        let one : k.channels ≡ 1 = omega (arith, passed k good, c) in
-        let f = fits (lent samples) (length p) (lent_length samples (lit≤ tt) (lit≤ tt)) (omega (arith, needs 1 one)) in
-        let b : eqb k.channels 2 ≡ false = ne_eqb k.channels 2 c in (
+        let one : k.channels ≡ 1 = omega (arith, passed k good, eqb-false k.channels 2 c) in
+        let f = fits (lent samples) (length p) (lent_length samples (lit≤ tt) (lit≤ tt)) (omega (arith, needs 1 one)) in (
           reply-taken _ _ _ e ∙ f,
           reply-lent _ _ _ e f
               ∙ ap (λ vs. sound_in p (deemphasis k.downsample vs m))
               (ap (λ v. v ∷ []) (lent_is samples (lit≤ tt) (lit≤ tt))
-              ∙ ap (λ z. both z (slice (samples - frame k) samples h) (slice (channel + samples - frame k) (channel + samples) h)) (sym b)),
+              ∙ ap (λ z. both z (slice (samples - frame k) samples h) (slice (channel + samples - frame k) (channel + samples) h)) (sym c)),
         )
 
-    pub stereo-sound : k.channels ≡ 2 → {t : Bool} {y : Sound}
+    pub stereo-sound : stereo k ≡ true → {t : Bool} {y : Sound}
         → reply t y ≡ deemphasis_stereo k.downsample (lent samples) (lent (channel + samples)) m p → (t ≡ true) × (y ≡ sound_in p (frame_sound k m h))
     unfolding deemphasis_stereo deemphasised sound_in frame_sound newest stereo
     stereo-sound c e =
         let lv = lent_length samples (lit≤ tt) (lit≤ tt) in
         let lw = lent_length (channel + samples) (lit≤ tt) (lit≤ tt) in
-        let f = fits (lent samples) (length p / 2) lv (omega (arith, needs 2 c)) in
-        let g = and_both _ _ (eq-eqb (length (lent samples)) (length (lent (channel + samples))) (lv ∙ sym lw)) f in
-        let b : eqb k.channels 2 ≡ true = eq-eqb k.channels 2 c in (
+        let f = fits (lent samples) (length p / 2) lv (omega (arith, needs 2 (eqb-true k.channels 2 c))) in
+        let g = and_both _ _ (eq-eqb (length (lent samples)) (length (lent (channel + samples))) (lv ∙ sym lw)) f in (
           reply-taken _ _ _ e ∙ g,
           reply-lent _ _ _ e g
               ∙ ap (λ vs. sound_in p (deemphasis k.downsample vs m))
               (ap₂ (λ v w. v ∷ w ∷ []) (lent_is samples (lit≤ tt) (lit≤ tt)) (lent_is (channel + samples) (lit≤ tt) (lit≤ tt))
-              ∙ ap (λ z. both z (slice (samples - frame k) samples h) (slice (channel + samples - frame k) (channel + samples) h)) (sym b)),
+              ∙ ap (λ z. both z (slice (samples - frame k) samples h) (slice (channel + samples - frame k) (channel + samples) h)) (sym c)),
         )

@@ -40,7 +40,7 @@ pub fn frame_sound(
     let d = k.downsample as usize;
     let end = history::SAMPLES;
     let first = &history[end - n..end];
-    if k.channels == 2 {
+    if k.is_stereo() {
         let last = history::CHANNEL + end;
         deemphasis_stereo(first, &history[last - n..last], memories, d, pcm)
     } else {

@@ -78,14 +78,14 @@ module _ (k : Settings) (good : check_settings k ≡ 0) where
     abbrev two : Tail
     two = covered_tail (frame k) blocks.second.samples (tail_at channel h)
 
-    pub mono-is : (k.channels ≡ 2 → ⊥) → (r : ℕ) (y : List Float) → r ≡ (channel_block k seed (take 25 e)).seed
+    pub mono-is : stereo k ≡ false → (r : ℕ) (y : List Float) → r ≡ (channel_block k seed (take 25 e)).seed
         → y ≡ put half (half + overlap) (tail_list (covered_tail (frame k) (channel_block k seed (take 25 e)).samples (tail_at 0 h))) h
         → noised y r ≡ after_noise k seed e h
-    unfolding after_noise noise_seed noise_tails noise_blocks tails stereo
+    unfolding after_noise noise_seed noise_tails noise_blocks tails
     mono-is n r y p q =
         ap₂ noised (q ∙ put_first h l one) p
         ∙ ap (λ b. noised (with_tails h (record { first = one; second = cond b two (tail_at channel h) })) (cond b blocks.second.seed blocks.first.seed))
-        (sym (ne_eqb k.channels 2 n))
+        (sym n)
 
     -- the second channel's tail, after the first one's was written
     second-kept : (y : List Float) → y ≡ put half (half + overlap) (tail_list one) h → tail_at channel y ≡ tail_at channel h
@@ -96,12 +96,12 @@ module _ (k : Settings) (good : check_settings k ≡ 0) where
         ap (tail_at channel) (q ∙ put_first h l one)
         ∙ ap (λ (t : Tails). t.second) (tails-with h (record { first = one; second = tail_at channel h }) l z)
 
-    pub stereo-is : k.channels ≡ 2 → (r s : ℕ) (d y x : List Float) → d ≡ drop 25 e → r ≡ (channel_block k seed (take 25 e)).seed
+    pub stereo-is : stereo k ≡ true → (r s : ℕ) (d y x : List Float) → d ≡ drop 25 e → r ≡ (channel_block k seed (take 25 e)).seed
         → y ≡ put half (half + overlap) (tail_list (covered_tail (frame k) (channel_block k seed (take 25 e)).samples (tail_at 0 h))) h
         → s ≡ (channel_block k r d).seed
         → x ≡ put (channel + half) (half + overlap) (tail_list (covered_tail (frame k) (channel_block k r d).samples (tail_at channel y))) y
         → noised x s ≡ after_noise k seed e h
-    unfolding after_noise noise_seed noise_tails noise_blocks tails stereo
+    unfolding after_noise noise_seed noise_tails noise_blocks tails
     stereo-is c r s d y x i p q f g =
         let b : channel_block k r d ≡ blocks.second = ap₂ (channel_block k) p i in
         let u : covered_tail (frame k) (channel_block k r d).samples (tail_at channel y) ≡ two =
@@ -111,7 +111,7 @@ module _ (k : Settings) (good : check_settings k ≡ 0) where
         ∙ put_both h one two l (covered_sized (tail_at 0 h) (first-sized h l) seed (take 25 e)) in
         ap₂ noised w (f ∙ ap (λ (v : Block). v.seed) b)
         ∙ ap (λ t. noised (with_tails h (record { first = one; second = cond t two (tail_at channel h) })) (cond t blocks.second.seed blocks.first.seed))
-        (sym (eq-eqb k.channels 2 c))
+        (sym c)
 
 -- which calls are taken
 module _ (k : Settings) (n : ℕ) where

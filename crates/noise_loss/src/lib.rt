@@ -57,7 +57,7 @@ pub fn noise_loss(
         return Err(Refused);
     }
     let one = noise_channel(history, 0, k, seed, &energies[..MAX_BANDS]);
-    if k.channels == 2 {
+    if k.is_stereo() {
         Ok(noise_channel(history, CHANNEL, k, one, &energies[MAX_BANDS..]))
     } else {
         Ok(one)

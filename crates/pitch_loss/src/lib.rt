@@ -56,7 +56,7 @@ pub fn pitch_loss(k: Settings, history: &mut [f32], pitch: Pitch) -> Result<(), 
         n: frame_size(k.lm),
         pitch,
     };
-    if k.channels == 2 {
+    if k.is_stereo() {
         loss.conceal_stereo(history);
     } else {
         loss.conceal_mono(history);

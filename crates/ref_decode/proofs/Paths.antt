@@ -58,12 +58,12 @@ module _ (s : State) (h : List Float) (z : AcceptedState s h) where
       ap (λ (x : Noised). x.history) drawn,
     )
 
-  module _ (e : noisy (core s) ≡ false) (lag : ℕ) (p : lag ≡ cond (eqb s.loss_count 0) (lag_of (eqb s.settings.channels 2) h) s.lag) where
+  module _ (e : noisy (core s) ≡ false) (lag : ℕ) (p : lag ≡ cond (eqb s.loss_count 0) (lag_of (stereo s.settings) h) s.lag) where
     in-range : (lag_least ≤ lag) × (lag ≤ lag_most)
     in-range = go (eqb s.loss_count 0) refl p
       where
-        go : (b : Bool) → eqb s.loss_count 0 ≡ b → lag ≡ cond b (lag_of (eqb s.settings.channels 2) h) s.lag → (lag_least ≤ lag) × (lag ≤ lag_most)
-        go true a f = (omega (arith, lag_low (eqb s.settings.channels 2) h), omega (arith, lag_high (eqb s.settings.channels 2) h))
+        go : (b : Bool) → eqb s.loss_count 0 ≡ b → lag ≡ cond b (lag_of (stereo s.settings) h) s.lag → (lag_least ≤ lag) × (lag ≤ lag_most)
+        go true a f = (omega (arith, lag_low (stereo s.settings) h), omega (arith, lag_high (stereo s.settings) h))
         go false a f =
             let w = lag_range s.settings.start s.loss_count s.lag (ok-start s h z).lag (pitch_start s e)
             (omega (arith, eqb-false s.loss_count 0 a)) (omega (arith, pitch_count s e)) in
@@ -82,16 +82,16 @@ module _ (s : State) (h : List Float) (z : AcceptedState s h) where
         )
 
     lag_is : lag ≡ (pitch_made s h).lag
-    unfolding pitch_made stereo
-    lag_is = p ∙ ap (λ b. cond b (lag_of (eqb s.settings.channels 2) h) s.lag) (sym (pitch_searches s e))
+    unfolding pitch_made
+    lag_is = p ∙ ap (λ b. cond b (lag_of (stereo s.settings) h) s.lag) (sym (pitch_searches s e))
 
     module _ (predictor g : List Float) (t : Bool)
-        (q : predictor ≡ cond (eqb s.loss_count 0) (fitted_to (eqb s.settings.channels 2) s.predictor (tails h)) s.predictor)
+        (q : predictor ≡ cond (eqb s.loss_count 0) (fitted_to (stereo s.settings) s.predictor (tails h)) s.predictor)
         (r : reply t g ≡ reply_if (pitch_takes s.settings (length h) lag s.filter)
         (with_tails h (pitch_tails (stereo s.settings) (frame s.settings) lag (eqb s.loss_count 0) predictor s.filter (tails h))) h) where
       predictor_is : predictor ≡ (pitch_made s h).predictor
-      unfolding pitch_made stereo
-      predictor_is = q ∙ ap (λ b. cond b (fitted_to (eqb s.settings.channels 2) s.predictor (tails h)) s.predictor) (sym (pitch_searches s e))
+      unfolding pitch_made
+      predictor_is = q ∙ ap (λ b. cond b (fitted_to (stereo s.settings) s.predictor (tails h)) s.predictor) (sym (pitch_searches s e))
 
       pub pitch_path : (record { kind = Pitch; seed = s.seed; lag = lag; coarse = s.coarse; predictor = predictor } ≡ pitch_made s h)
           × (g ≡ with_tails h (tails_by_pitch s (pitch_made s h) (tails h)))

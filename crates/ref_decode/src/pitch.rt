@@ -23,7 +23,7 @@ pub(crate) fn pitch_made(s: State, history: &mut [f32]) -> Made
     let mut lag = s.lag;
     let mut predictor = s.predictor;
     if first {
-        let two = s.settings.channels == 2;
+        let two = s.settings.is_stereo();
         lag = find_lag(two, history).unwrap();
         predictor = fit_predictor(two, history, predictor).unwrap();
     }

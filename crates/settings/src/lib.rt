@@ -4,6 +4,7 @@
 
 ghost use Rattle.std.specs.Prelude.{◌≡◌};
 ghost use Rattle.settings.specs.Number.{number_of};
+ghost use Rattle.settings.specs.Settings.{stereo};
 
 use std::error::Error;
 use std::fmt;
@@ -18,6 +19,16 @@ pub struct Settings {
     pub start: u32,
     pub end: u32,
     pub downsample: u32,
+}
+
+impl Settings {
+    // Whether the second channel is used.
+    #[tactic(auto, unfolding(crate::specs::Settings::stereo))]
+    pub fn is_stereo(self) -> bool
+        ensures { result ≡ stereo self }
+    {
+        self.channels == 2
+    }
 }
 
 // Why a call is refused.

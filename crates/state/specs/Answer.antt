@@ -1,5 +1,5 @@
 -- What a call answers, in document 01's numbers.
-use Rattle.std.specs.Prelude.{ℕ, Result, Ok, Err}
+use Rattle.std.specs.Prelude.{ℕ, List, [], ◌∷◌, Result, Ok, Err}
 use Rattle.settings.specs.Number.{number_of}
 use Rattle.settings.specs.declared.Refusal.{Refusal}
 use Rattle.state.specs.declared.Answer.{Answer}
@@ -20,3 +20,7 @@ pub record Report : Type 0 where
 abbrev pub report_of : Result Answer Refusal → Report
 report_of (Ok a) = record { number = 0; kind = kind_of a.kind; samples = a.samples }
 report_of (Err e) = record { number = number_of e; kind = 0; samples = 0 }
+
+-- number, kind and sample count
+abbrev pub answer_words : Report → List ℕ
+answer_words r = r.number ∷ r.kind ∷ r.samples ∷ []

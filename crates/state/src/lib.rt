@@ -4,12 +4,12 @@
 
 pub mod checks;
 
-ghost use Rattle.std.specs.Prelude.{◌≡◌};
-ghost use Rattle.state.specs.Answer.{kind_of};
+ghost use Rattle.std.specs.Prelude.{◌≡◌, ◌≤◌};
+ghost use Rattle.state.specs.Answer.{kind_of, report_of, answer_words};
 ghost use Rattle.state.specs.State.{core, noisy};
 
 use post_filter::Filter;
-use settings::Settings;
+use settings::{Refusal, Settings};
 
 // All that a decoder carries but for the history, which is lent beside it. Of each array channel 0's values come first.
 #[derive(Clone, Copy)]
@@ -50,6 +50,26 @@ pub struct Answer {
     pub kind: Kind,
     pub samples: usize,
     pub state: State,
+}
+
+// The number of an accepted call; and what a refused one has for a kind, and for a sample count.
+const ACCEPTED: u32 = 0;
+
+const NONE: u32 = 0;
+
+// What a call answers, as document 01's three words: number, kind and sample count. (A sample count past 32 bits, which no
+// call has, becomes the greatest of them.)
+pub fn report(call: &Result<Answer, Refusal>) -> [u32; 3]
+    ensures { (report_of call.now).samples ≤ 4_294_967_295 → result ≡ answer_words (report_of call.now) }
+{
+    match call {
+        Ok(a) => [
+            ACCEPTED,
+            u32::from(a.kind),
+            u32::try_from(a.samples).unwrap_or(u32::MAX),
+        ],
+        Err(e) => [u32::from(*e), NONE, NONE],
+    }
 }
 
 // The first loss count that goes by noise at any start band.

@@ -4,30 +4,41 @@ use Rattle.std.specs.Prelude.{is_ok}
 use Rattle.reply.specs.Reply.{reply-lent, reply-taken}
 use Rattle.std.proofs.lemmas.Bool.Decides.{nat_tests}
 use Rattle.record.specs.Record.{writable}
-use Rattle.answer.proofs.Answers.{samples-most, accepted-is, refused-is}
+use Rattle.answer.proofs.Answers.{left, samples-most, count-most, step-written}
 use Rattle.answer.proofs.answer.Goals as goal
+use Rattle.answer.proofs.answer.Goals.{in-Ok+in_ok-write_record, in_default}
 
-pub returns-in_err-write_record-in-Ok : goal.returns-in_err-write_record-in-Ok
+pub returns-in_err-write_record : goal.returns-in_err-write_record
 unfolding writable
-returns-in_err-write_record-in-Ok c =
-    let fits : writable c.args.rec.now c.conceal_record.new.history ≡ true = grind (arith, nat_tests) in
-    absurd (true≢false (sym (reply-taken _ _ _ c.write_record.ensures ∙ fits) ∙ ap is_ok c.in_err-write_record-in-Ok.was))
+returns-in_err-write_record c =
+    let fits : writable c.args.rec.now c.conceal_record-call.new.history ≡ true = grind (arith, nat_tests) in
+    absurd (true≢false (sym (reply-taken _ _ _ c.write_record.ensures ∙ fits) ∙ ap is_ok c.in_err-write_record.was))
 
 pub slice_bounds-pcm-end : goal.slice_bounds-pcm-end
 slice_bounds-pcm-end c =
-    omega (arith, samples-most c.args.rec.now c.args.head.now c.requires.1 _ _ _ c.in-Ok.a c.in-Ok.ensures, c.conceal_record.auto.pcm)
+    let a = c.args in
+    let call = c.conceal_record-call in
+    let words = c.report-words.ensures (omega (arith, samples-most a.rec.now a.head.now c.requires.1 _ _ _ call.result call.ensures)) in
+    omega (arith, count-most a.rec.now a.head.now c.requires.1 _ _ _ call.result call.ensures _ words, call.auto.pcm)
 
 pub slice_bounds-write_head-end : goal.slice_bounds-write_head-end
 slice_bounds-write_head-end c =
-    sym (length-take-le c.in-Ok.a.samples c.conceal_record.new.pcm (omega (arith, samples-most c.args.rec.now c.args.head.now c.requires.1 _ _ _ c.in-Ok.a c.in-Ok.ensures, c.conceal_record.auto.pcm)))
+    let a = c.args in
+    let call = c.conceal_record-call in
+    let words = c.report-words.ensures (omega (arith, samples-most a.rec.now a.head.now c.requires.1 _ _ _ call.result call.ensures)) in
+    sym (length-take-le _ call.new.pcm (omega (arith, count-most a.rec.now a.head.now c.requires.1 _ _ _ call.result call.ensures _ words, call.auto.pcm)))
 
-pub returns-in_ok-write_record-in-Ok : goal.returns-in_ok-write_record-in-Ok
+pub returns : goal.returns
 unfolding writable
-returns-in_ok-write_record-in-Ok c =
-    let fits : writable c.args.rec.now c.conceal_record.new.history ≡ true = grind (arith, nat_tests) in
-    let kept = reply-lent _ _ _ c.write_record.ensures fits in
-    accepted-is c.args.rec.now c.args.head.now c.requires.1 _ _ _ c.in-Ok.a c.in-Ok.ensures _ _ _ _ c.from.ensures kept c.write_head.ensures
-
-pub returns-in-Err : goal.returns-in-Err
-returns-in-Err c =
-    refused-is c.args.rec.now c.args.head.now c.requires.1 _ _ _ c.in-Err.e c.in-Err.ensures _ _ _ c.from-in-Err.ensures c.write_head-in-Err.ensures
+returns c =
+    let a = c.args in
+    let call = c.conceal_record-call in
+    let words = c.report-words.ensures (omega (arith, samples-most a.rec.now a.head.now c.requires.1 _ _ _ call.result call.ensures)) in
+    let fits : writable a.rec.now call.new.history ≡ true = grind (arith, nat_tests) in
+    let rec : c.match-call.rec ≡ left a.rec.now call.new.history call.result =
+    elim c.match-call.branch [
+      | in-Ok+in_ok-write_record w ↦
+          w.rec-is ∙ reply-lent _ _ _ w.write_record.ensures fits ∙ ap (left a.rec.now call.new.history) (sym w.in-Ok.is)
+      | in_default w ↦ w.rec-is ∙ ap (left a.rec.now call.new.history) (sym w.in_default.is)
+    ] in
+    step-written a.rec.now a.head.now c.requires.1 _ _ _ call.result call.ensures _ words _ _ _ rec c.write_head.ensures

@@ -1,14 +1,17 @@
 -- `decode_lost` meets its contract: that of the call, word by word.
-use Rattle.std.proofs.Common.{arith}
-use Rattle.direct.proofs.Laws.{samples-most, accepted-is, refused-is}
+use Rattle.std.proofs.Common.{◌≡◌, ap, sym, ◌∙◌}
+use Rattle.direct.proofs.Laws.{left, samples-fit, call-is}
 use Rattle.direct.proofs.decode_lost.Goals as goal
+use Rattle.direct.proofs.decode_lost.Goals.{in-Ok, in_default}
 
-pub overflow_cast-answer : goal.overflow_cast-answer
-overflow_cast-answer c =
-    record { fits = omega (arith, samples-most c.from_words.result _ _ _ _ _ c.from_words.ensures c.in-Ok.a c.in-Ok.ensures) }
-
-pub returns-in-Ok : goal.returns-in-Ok
-returns-in-Ok c = accepted-is c.from_words.result _ _ _ _ _ c.from_words.ensures c.in-Ok.a c.in-Ok.ensures _ _ c.to_words.ensures c.from.ensures
-
-pub returns-in-Err : goal.returns-in-Err
-returns-in-Err c = refused-is c.from_words.result _ _ _ _ _ c.from_words.ensures c.in-Err.e c.in-Err.ensures _ c.from-number.ensures
+pub returns : goal.returns
+returns c =
+    let call = c.decode_lost-call in
+    let from = c.from_words.ensures in
+    let words = c.report.ensures (samples-fit _ _ _ _ _ _ from call.result call.ensures) in
+    let state : c.match-call.state ≡ left c.args.state.now call.result =
+    elim c.match-call.branch [
+      | in-Ok w ↦ w.state-is ∙ w.to_words.ensures ∙ ap (left c.args.state.now) (sym w.in-Ok.is)
+      | in_default w ↦ w.state-is ∙ ap (left c.args.state.now) (sym w.in_default.is)
+    ] in
+    call-is _ _ _ _ _ _ from call.result call.ensures _ _ words state

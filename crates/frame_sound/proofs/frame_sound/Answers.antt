@@ -28,20 +28,20 @@ overflow_sub-last c =
     let t = takes-each _ _ _ (sym c.sound_takes.ensures ∙ c.if-not-sound_takes.false) in
     omega (arith, high c.args.k t.0 c.args.history.now t.1 _ c.frame_size-n.ensures)
 
-pub returns-then-k-eq2 : goal.returns-then-k-eq2
-returns-then-k-eq2 c =
+pub returns-then-is_stereo : goal.returns-then-is_stereo
+returns-then-is_stereo c =
     let a = c.args in
     let f = c.frame_size-n in
     let y = sym c.sound_takes.ensures ∙ c.if-not-sound_takes.false in
     let t = takes-each _ _ _ y in
     yes _ _ _ y
-    (stereo-sound a.k t.0 a.history.now t.1 f.result f.ensures a.memories a.pcm.now t.2 c.if-k-eq2.true c.deemphasis_stereo.ensures)
+    (stereo-sound a.k t.0 a.history.now t.1 f.result f.ensures a.memories a.pcm.now t.2 (sym c.is_stereo.ensures ∙ c.if-is_stereo.true) c.deemphasis_stereo.ensures)
 
-pub returns-else-k-eq2 : goal.returns-else-k-eq2
-returns-else-k-eq2 c =
+pub returns-else-is_stereo : goal.returns-else-is_stereo
+returns-else-is_stereo c =
     let a = c.args in
     let f = c.frame_size-n in
     let y = sym c.sound_takes.ensures ∙ c.if-not-sound_takes.false in
     let t = takes-each _ _ _ y in
     yes _ _ _ y
-    (mono-sound a.k t.0 a.history.now t.1 f.result f.ensures a.memories a.pcm.now t.2 c.if-k-eq2.false c.deemphasis_mono.ensures)
+    (mono-sound a.k t.0 a.history.now t.1 f.result f.ensures a.memories a.pcm.now t.2 (sym c.is_stereo.ensures ∙ c.if-is_stereo.false) c.deemphasis_mono.ensures)

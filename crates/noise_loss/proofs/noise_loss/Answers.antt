@@ -32,8 +32,8 @@ noise_channel-requires c =
     let g = good c.args.k _ c.settings_pass.ensures c.if-not-settings_pass.false in
     search rules
 
-pub returns-then-k-eq2 : goal.returns-then-k-eq2
-returns-then-k-eq2 c =
+pub returns-then-is_stereo : goal.returns-then-is_stereo
+returns-then-is_stereo c =
     let one = c.noise_channel-one in
     let two = c.noise_channel in
     let a = c.args in
@@ -41,14 +41,14 @@ returns-then-k-eq2 c =
     let n : length a.history.now ≡ 4336 = search rules in
     let l : length a.energies ≡ 50 = search rules in
     reply-yes _ _ _ (takes_whole a.k _ (sym c.settings_pass.ensures ∙ c.if-not-settings_pass.false) n)
-    (stereo-is a.k g a.history.now n a.seed a.energies c.if-k-eq2.true one.result two.result _ one.new.history two.new.history
+    (stereo-is a.k g a.history.now n a.seed a.energies (sym c.is_stereo.ensures ∙ c.if-is_stereo.true) one.result two.result _ one.new.history two.new.history
     (take_all 25 (drop 25 a.energies) (omega (arith, length-drop 25 a.energies))) one.ensures.0 one.ensures.1 two.ensures.0 two.ensures.1)
 
-pub returns-else-k-eq2 : goal.returns-else-k-eq2
-returns-else-k-eq2 c =
+pub returns-else-is_stereo : goal.returns-else-is_stereo
+returns-else-is_stereo c =
     let one = c.noise_channel-one in
     let a = c.args in
     let g = good a.k _ c.settings_pass.ensures c.if-not-settings_pass.false in
     let n : length a.history.now ≡ 4336 = search rules in
     reply-yes _ _ _ (takes_whole a.k _ (sym c.settings_pass.ensures ∙ c.if-not-settings_pass.false) n)
-    (mono-is a.k g a.history.now n a.seed a.energies c.if-k-eq2.false one.result one.new.history one.ensures.0 one.ensures.1)
+    (mono-is a.k g a.history.now n a.seed a.energies (sym c.is_stereo.ensures ∙ c.if-is_stereo.false) one.result one.new.history one.ensures.0 one.ensures.1)

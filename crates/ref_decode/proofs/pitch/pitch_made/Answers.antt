@@ -4,6 +4,7 @@ use Rattle.std.specs.Prelude.{eqb}
 use Rattle.std.specs.Result.{is_ok}
 use borrow.Author.Tests.{eq-eqb, ne_eqb}
 use Rattle.history.specs.History.{whole, tails}
+use Rattle.settings.specs.Settings.{stereo}
 use Rattle.reply.specs.Reply.{reply-taken}
 use Rattle.state.proofs.Keep.{ok-start}
 use Rattle.pitch_lag.specs.Lag.{lag_of}
@@ -27,9 +28,9 @@ unwrap-requires c =
     let s = c.args.s in
     let h = c.args.history.now in
     let l = eq-eqb (length h) whole (ok-start s h c.requires.0).history in
-    let lag : c.if-first.lag ≡ cond (eqb s.loss_count 0) (lag_of (eqb s.settings.channels 2) h) s.lag =
+    let lag : c.if-first.lag ≡ cond (eqb s.loss_count 0) (lag_of (stereo s.settings) h) s.lag =
     elim c.if-first.branch [
-      | then-first w ↦ rw (eq-eqb s.loss_count 0 w.if-first.true) (w.lag-is ∙ ok_value _ _ w.find_lag.ensures l w.unwrap-lag.ensures)
+      | then-first w ↦ rw (eq-eqb s.loss_count 0 w.if-first.true) (w.lag-is ∙ ok_value _ _ w.find_lag.ensures l w.unwrap-lag.ensures ∙ ap (λ b. lag_of b h) w.is_stereo-two.ensures)
       | else-first w ↦ rw (ne_eqb s.loss_count 0 w.if-first.false) w.lag-is
     ] in
     reply-taken _ _ _ c.pitch_loss.ensures ∙ pitch_taken s h c.requires.0 c.requires.1 _ lag
@@ -39,14 +40,14 @@ returns c =
     let s = c.args.s in
     let h = c.args.history.now in
     let l = eq-eqb (length h) whole (ok-start s h c.requires.0).history in
-    let lag : c.if-first.lag ≡ cond (eqb s.loss_count 0) (lag_of (eqb s.settings.channels 2) h) s.lag =
+    let lag : c.if-first.lag ≡ cond (eqb s.loss_count 0) (lag_of (stereo s.settings) h) s.lag =
     elim c.if-first.branch [
-      | then-first w ↦ rw (eq-eqb s.loss_count 0 w.if-first.true) (w.lag-is ∙ ok_value _ _ w.find_lag.ensures l w.unwrap-lag.ensures)
+      | then-first w ↦ rw (eq-eqb s.loss_count 0 w.if-first.true) (w.lag-is ∙ ok_value _ _ w.find_lag.ensures l w.unwrap-lag.ensures ∙ ap (λ b. lag_of b h) w.is_stereo-two.ensures)
       | else-first w ↦ rw (ne_eqb s.loss_count 0 w.if-first.false) w.lag-is
     ] in
-    let predictor : c.if-first.predictor ≡ cond (eqb s.loss_count 0) (fitted_to (eqb s.settings.channels 2) s.predictor (tails h)) s.predictor =
+    let predictor : c.if-first.predictor ≡ cond (eqb s.loss_count 0) (fitted_to (stereo s.settings) s.predictor (tails h)) s.predictor =
     elim c.if-first.branch [
-      | then-first w ↦ rw (eq-eqb s.loss_count 0 w.if-first.true) (w.predictor-is ∙ ok_value _ _ w.fit_predictor.ensures l w.unwrap-predictor.ensures)
+      | then-first w ↦ rw (eq-eqb s.loss_count 0 w.if-first.true) (w.predictor-is ∙ ok_value _ _ w.fit_predictor.ensures l w.unwrap-predictor.ensures ∙ ap (λ b. fitted_to b s.predictor (tails h)) w.is_stereo-two.ensures)
       | else-first w ↦ rw (ne_eqb s.loss_count 0 w.if-first.false) w.predictor-is
     ] in
     pitch_path s h c.requires.0 c.requires.1 _ lag _ _ _ predictor c.pitch_loss.ensures
