@@ -14,6 +14,7 @@ fn answer_band(wire: &mut Wire) -> io::Result<()> {
     wire.write_all(&x)
 }
 
+// Whether op is known: the protocol's numbers.
 pub(crate) fn answer(wire: &mut Wire, op: u32) -> io::Result<bool> {
     match op {
         401 => wire.answer(celt_lcg_rand)?,

@@ -49,7 +49,7 @@ fn answer_loss(wire: &mut Wire) -> io::Result<()> {
     if pitch.first {
         pitch.predictor = fit_predictor(false, &h, pitch.predictor).unwrap();
     }
-    pitch_loss(k, &mut h, pitch).unwrap_or(());
+    pitch_loss(k, &mut h, pitch).ok();
     wire.write_channel(&h)?;
     wire.write_all(&pitch.predictor[..ORDER])
 }

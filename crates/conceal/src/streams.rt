@@ -32,7 +32,7 @@ fn gave_up() -> Error {
     Error::new(ErrorKind::TimedOut, "gave up after 2^64 tries")
 }
 
-// One read that moves bytes, ends or fails.
+// One read that moves bytes, ends or fails. It counts its tries, so that it ends, as `conceal_all` counts records.
 fn read_some<R: Read>(clock: &impl Clock, input: &mut R, part: &mut [u8]) -> Result<usize>
     ensures bound { ReadsAtMost result part.new }
     ensures bytes { ReadConsumes (R.remaining input.old) (R.remaining input.new) result part.new }
