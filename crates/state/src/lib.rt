@@ -4,7 +4,7 @@
 
 pub mod checks;
 
-ghost use Rattle.std.specs.Prelude.{◌≡◌, ◌≤◌};
+ghost use Rattle.std.specs.Prelude.{◌≡◌, ◌≤◌, ◌<◌, [], ◌∷◌};
 ghost use Rattle.state.specs.Answer.{kind_of, report_of, answer_words};
 ghost use Rattle.state.specs.State.{core, noisy};
 
@@ -60,7 +60,9 @@ const NONE: u32 = 0;
 // What a call answers, as document 01's three words: number, kind and sample count. (A sample count past 32 bits, which no
 // call has, becomes the greatest of them.)
 pub fn report(call: &Result<Answer, Refusal>) -> [u32; 3]
-    ensures { (report_of call.now).samples ≤ 4_294_967_295 → result ≡ answer_words (report_of call.now) }
+    ensures words { (report_of call.now).samples ≤ 4_294_967_295 → result ≡ answer_words (report_of call.now) }
+    ensures past { 4_294_967_295 < (report_of call.now).samples
+        → result ≡ (report_of call.now).number ∷ (report_of call.now).kind ∷ 4_294_967_295 ∷ [] }
 {
     match call {
         Ok(a) => [

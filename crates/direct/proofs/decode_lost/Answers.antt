@@ -8,7 +8,7 @@ pub returns : goal.returns
 returns c =
     let call = c.decode_lost-call in
     let from = c.from_words.ensures in
-    let words = c.report.ensures (samples-fit _ _ _ _ _ _ from call.result call.ensures) in
+    let words = c.report.ensures.words (samples-fit _ _ _ _ _ _ from call.result call.ensures) in
     let state : c.match-call.state ≡ left c.args.state.now call.result =
     elim c.match-call.branch [
       | in-Ok w ↦ w.state-is ∙ w.to_words.ensures ∙ ap (left c.args.state.now) (sym w.in-Ok.is)
