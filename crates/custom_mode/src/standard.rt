@@ -5,6 +5,11 @@ ghost use Rattle.custom_mode.specs.Mode.{edge, mean, preemph};
 // The samples of the shortest block.
 pub const SHORT_BLOCK: usize = 120;
 
+// The shortest frame, of one such block, and the longest, of eight.
+pub const FRAME_LEAST: usize = SHORT_BLOCK;
+
+pub const FRAME_MOST: usize = 8 * SHORT_BLOCK;
+
 // The samples in which a block and the next one overlap.
 pub const OVERLAP: usize = 120;
 

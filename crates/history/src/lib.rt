@@ -14,7 +14,7 @@ pub const OVERLAP: usize = custom_mode::standard::OVERLAP;
 // What a loss may change of a channel: its newest 1,024 samples and its overlap.
 pub const TAIL: usize = HALF + OVERLAP;
 
-pub const LONGEST_FRAME: usize = 960;
+pub const LONGEST_FRAME: usize = custom_mode::standard::FRAME_MOST;
 
 // What is extrapolated beyond a frame: twice the overlap.
 pub const EXTRA: usize = 2 * OVERLAP;
