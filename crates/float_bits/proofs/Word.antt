@@ -1,7 +1,9 @@
 -- Words read as signed numbers, and what is no number. Assumes nothing.
-use Rattle.std.proofs.Common.{◌≡◌, ℕ, suc, ◌-◌, ◌*◌, ◌/◌, ◌^◌, ◌<◌, ◌≤◌, Bool, true, false, not, T, true≢false, ℤ, pos, negsuc, sym, refl, ap, ◌∙◌, subst, lt_of_lt_of_le, lt_of_le_of_lt, le_of_lt, div-lt_iff_lt-mul, le→leb, lt→ltb, to_z-of_z, w32, to_z, of_z, arith, ltb, ltb-true, ltb-false}
+use Rattle.std.proofs.Common.{◌≡◌, ℕ, suc, ◌-◌, ◌*◌, ◌/◌, ◌^◌, ◌<◌, ◌≤◌, Bool, true, false, not, T, ltb, ℤ, pos, negsuc, w32, to_z, of_z}
+use Rattle.std.proofs.Common.{true≢false, sym, refl, ap, ◌∙◌, subst, arith, lt_of_lt_of_le, lt_of_le_of_lt, le_of_lt, le→leb, lt→ltb}
+use Rattle.std.proofs.Common.{div-lt_iff_lt-mul, to_z-of_z, ltb-true, ltb-false}
 use lib.Signed.{mag, shr_z, mag_shr}
-use lib.Ieee.{Float, nan, inf, fin, binary32, is_nan, of_bits, div, in_float, ne}
+use lib.Ieee.{Float, nan, inf, fin, binary32, is_nan, of_bits, in_float}
 use mir.Facts.{to_z_pos, to_z-neg}
 use Rattle.float_bits.specs.Words.{signed}
 use Rattle.float_bits.specs.Noise.{signed-mag, signed_low, signed_high}
@@ -37,13 +39,16 @@ module _ (w n : ℕ) (z : ℤ) (l : w < 2 ^ 32) (e : z ≡ signed w) where
   shift-held p h = subst (λ (v : ℤ). T (in_float binary32 v)) (sym shifted) (held n (signed w) p (signed-mag w l) h)
 
 -- ---- no number
-pub zero_quotient : div binary32 (of_bits binary32 0) (of_bits binary32 0) ≡ nan
-unfolding div of_bits
-zero_quotient = refl
+pub nan-bits : of_bits binary32 0x7fc0_0000 ≡ nan
+unfolding of_bits
+nan-bits = refl
 
--- x != x is false
-pub real : (x : Float) → ne x x ≡ false → T (not (is_nan x))
-unfolding is_nan ne
-real nan e = absurd (true≢false e)
-real (inf s) e = tt
-real (fin s m d) e = tt
+-- what `is_nan` answers
+pub nan-is : (x : Float) → true ≡ is_nan x → x ≡ nan
+unfolding is_nan
+nan-is nan e = refl
+nan-is (inf s) e = absurd (true≢false e)
+nan-is (fin s m d) e = absurd (true≢false e)
+
+pub real : (x : Float) → false ≡ is_nan x → T (not (is_nan x))
+real x e = subst (λ (b : Bool). T (not b)) e tt

@@ -48,7 +48,9 @@ dropped v = elim (here_or_on (size v) 950) [
   | inr a ↦ some (size (v * 2 ^ 149 / 2 ^ 1074)) (size v) a
       (subst (λ (z : ℕ). size (z / 2 ^ 1074) ≡ suc (size v - 1 - 925)) (mul-one (v * 2 ^ 149))
       (size-at v 149 0 1074 (size v - 1) (size v - 1 - 925)
-      (size_reaches v (size v - 1) (before_last (size v) 949 a)) (subst (λ (z : ℕ). v < 2 ^ z) (sym (again (size v) a)) (size-lt v)) (fall (size v) a) (fall' (size v) a)))
+      (size_reaches v (size v - 1) (before_last (size v) 949 a))
+      (subst (λ (z : ℕ). v < 2 ^ z) (sym (again (size v) a)) (size-lt v))
+      (fall (size v) a) (fall' (size v) a)))
 ]
   where
     most : (z : ℕ) → z < 950 → z ≤ 949
@@ -94,7 +96,8 @@ past v h = elim (here_or_on (size v) 1203) [
   | inr a ↦ mul-le-mul
       (le_trans
       ((le-div_iff_mul-le (pow_pos (925 + Dropped v))).1
-      (subst (λ (z : ℕ). z ≤ v) (ap (λ (z : ℕ). 2 ^ z) (lead (size v) a) ∙ pow-add 2 23 (925 + Dropped v)) (size_reaches v (size v - 1) (before_last (size v) 1202 a))))
+      (subst (λ (z : ℕ). z ≤ v) (ap (λ (z : ℕ). 2 ^ z) (lead (size v) a) ∙ pow-add 2 23 (925 + Dropped v))
+      (size_reaches v (size v - 1) (before_last (size v) 1202 a))))
       (nearest-ge (v / Unit v) (compare (v % Unit v * 2) (Unit v))))
       (pow_mono (many (size v) a))
 ]
@@ -111,7 +114,9 @@ past v h = elim (here_or_on (size v) 1203) [
 short : (v : ℕ) → v < Threshold → closest v (Unit v) * 2 ^ Dropped v < 2 ^ 277
 short v h = elim (eq-or-lt_of_le (most (size v) (size-le v 1202 (lt_of_lt_of_le h (lit≤ tt))))) [
   | inl e ↦ subst (λ (k : ℕ). closest v (2 ^ (925 + k)) * 2 ^ k < 2 ^ 277) (sym e)
-      (shl_lt 24 253 (lt_of_le_of_lt (closest_mono v (2 ^ 1178) (Threshold - 1) (2 ^ 1178) (pow_pos 1178) (pow_pos 1178) (mul-le-mul_right (2 ^ 1178) (before v Threshold h))) (lit< tt)))
+      (shl_lt 24 253 (lt_of_le_of_lt
+      (closest_mono v (2 ^ 1178) (Threshold - 1) (2 ^ 1178) (pow_pos 1178) (pow_pos 1178) (mul-le-mul_right (2 ^ 1178) (before v Threshold h)))
+      (lit< tt)))
   | inr l ↦ lt_of_le_of_lt
       (mul-le-mul
       (le_trans (nearest-le (v / Unit v) (compare (v % Unit v * 2) (Unit v)))
@@ -223,7 +228,8 @@ exact-val s zero e h = (refl, nothing)
     nothing : 0 * up e * 2 ^ 1074 ≡ 0 * up e * (2 ^ 1074 / down e) * down e
     nothing =
         ap (λ (z : ℕ). z * 2 ^ 1074) (zero-mul (up e)) ∙ zero-mul (2 ^ 1074)
-        ∙ sym (ap (λ (z : ℕ). z * (2 ^ 1074 / down e) * down e) (zero-mul (up e)) ∙ ap (λ (z : ℕ). z * down e) (zero-mul (2 ^ 1074 / down e)) ∙ zero-mul (down e))
+        ∙ sym (ap (λ (z : ℕ). z * (2 ^ 1074 / down e) * down e) (zero-mul (up e))
+        ∙ ap (λ (z : ℕ). z * down e) (zero-mul (2 ^ 1074 / down e)) ∙ zero-mul (down e))
 exact-val s (suc m) (pos k) h = (refl, exact-down (suc m) (pos k) refl)
 exact-val s (suc m) (negsuc k) h = (refl, exact-down (suc m) (negsuc k) (whole k (least k (leb→le (2 ^ suc k) (2 ^ 1074) least-digit))))
   where
@@ -241,7 +247,9 @@ narrow-val : (x : Float) (s : Bool) (a : ℕ) → HasValue x s a (2 ^ 1074) → 
 unfolding narrow
 narrow-val nan s a h = absurd h
 narrow-val (inf t) s a h = absurd h
-narrow-val (fin t m e) s a h = ap (λ (z : Bool). round binary32 z (m * up e) (down e)) h.0 ∙ round_same binary32 s (m * up e) (down e) a (2 ^ 1074) (down_pos e) (pow_pos 1074) h.1
+narrow-val (fin t m e) s a h =
+    ap (λ (z : Bool). round binary32 z (m * up e) (down e)) h.0
+    ∙ round_same binary32 s (m * up e) (down e) a (2 ^ 1074) (down_pos e) (pow_pos 1074) h.1
 
 -- ---- the theorem
 -- For every f64: what IEEE 754 tells is `narrow`, so its bits are too.

@@ -55,7 +55,8 @@ sign_bit b h = go (leb (2 ^ 63) b) (leb→le (2 ^ 63) b) (nleb→lt (2 ^ 63) b)
 fields : (b : ℕ) → b % 2 ^ 63 ≡ b % 2 ^ 63 / 2 ^ 52 * 2 ^ 52 + b % 2 ^ 52
 fields b = sym (ap (λ (z : ℕ). b % 2 ^ 63 / 2 ^ 52 * 2 ^ 52 + z) (sym (mod-mod-pow b 11 52)) ∙ split (b % 2 ^ 63) 52)
 
-by-fields : (b : ℕ) → b % 2 ^ 63 / 2 ^ 52 < 2047 → clause (of_bits binary64 b) ≡ round_ties_to_even (leb (2 ^ 63) b) (significand binary64 (b % 2 ^ 63 / 2 ^ 52) (b % 2 ^ 52))
+by-fields : (b : ℕ) → b % 2 ^ 63 / 2 ^ 52 < 2047
+    → clause (of_bits binary64 b) ≡ round_ties_to_even (leb (2 ^ 63) b) (significand binary64 (b % 2 ^ 63 / 2 ^ 52) (b % 2 ^ 52))
 by-fields b h =
     let s = leb (2 ^ 63) b in
     let e = b % 2 ^ 63 / 2 ^ 52 in
@@ -70,7 +71,8 @@ bits-fin b r w h m =
     ∙ m.bits (leb (2 ^ 63) b)
     ∙ ap (λ (z : ℕ). z + r) (sign_bit b w))
 
-infinite : (b : ℕ) → b < 2 ^ 64 → clause (of_bits binary64 b) ≡ inf (leb (2 ^ 63) b) → b / 2 ^ 63 * 2 ^ 31 + 0x7f80_0000 ≡ to_bits binary32 (clause (of_bits binary64 b))
+infinite : (b : ℕ) → b < 2 ^ 64 → clause (of_bits binary64 b) ≡ inf (leb (2 ^ 63) b)
+    → b / 2 ^ 63 * 2 ^ 31 + 0x7f80_0000 ≡ to_bits binary32 (clause (of_bits binary64 b))
 infinite b w h = sym (ap (to_bits binary32) h ∙ to_bits_inf (leb (2 ^ 63) b) ∙ ap (λ (z : ℕ). z + 0x7f80_0000) (sign_bit b w))
 
 -- at the threshold or past it, an infinity too
@@ -79,7 +81,9 @@ pub bits-inf : (b : ℕ) → b < 2 ^ 64 → 0x47ef_ffff_f000_0000 ≤ b % 2 ^ 63
 bits-inf b w h n = elim (here_or_on (b % 2 ^ 63 / 2 ^ 52) 2047) [
   | inl a ↦ infinite b w (by-fields b a ∙ ties-to-even-inf s (significand binary64 e t)
       (past_threshold e t (mod-lt b (pow_pos 52)) (subst (λ (z : ℕ). 0x47ef_ffff_f000_0000 ≤ z) (fields b) h)))
-  | inr a ↦ infinite b w (ap clause (of_bits_is binary64 b ∙ fields-inf binary64 s e t (ones b a) (subst (λ (v : Float). T (not (is_nan v))) (of_bits_is binary64 b) n)) ∙ clause-inf s)
+  | inr a ↦ infinite b w
+      (ap clause (of_bits_is binary64 b ∙ fields-inf binary64 s e t (ones b a) (subst (λ (v : Float). T (not (is_nan v))) (of_bits_is binary64 b) n))
+      ∙ clause-inf s)
 ]
   where
     s : Bool

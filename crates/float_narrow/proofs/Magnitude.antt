@@ -70,7 +70,8 @@ mag-zero e t h l = record { small = zero-le; bits = λ s. ap (to_bits binary32) 
     at s a =
         let v = significand binary64 e t in
         let b : v * 2 ^ 149 < 2 ^ 1072 = shl_lt 923 149 a in
-        let k : size (v * 2 ^ 149 / 2 ^ 1074) - 24 ≡ 0 = few-digits (size (v * 2 ^ 149 / 2 ^ 1074)) (size-le (v * 2 ^ 149 / 2 ^ 1074) 24 (shr_lt 24 1074 (lt_of_lt_of_le b (lit≤ tt)))) in
+        let n = v * 2 ^ 149 / 2 ^ 1074 in
+        let k : size n - 24 ≡ 0 = few-digits (size n) (size-le n 24 (shr_lt 24 1074 (lt_of_lt_of_le b (lit≤ tt)))) in
         ap (to_bits binary32)
         (round-at s v 0 (v * 2 ^ 149) (2 ^ 1074) (pow_pos 1074) k refl
         ∙ ap (λ (z : ℕ). units binary32 s z 0) (closest-zero (v * 2 ^ 149) (2 ^ 1074) (lt_of_lt_of_le (mul-lt-mul_of_pos_right b (lit< tt)) (lit≤ tt))))
@@ -89,31 +90,38 @@ wide : (r : ℕ) → r ≤ 2 ^ 23 → r ≤ 2 ^ 24
 wide r h = omega arith
 
 -- the last digit at the least exponent
-pub mag-sub : (e t : ℕ) → 872 ≤ e → e < 897 → t < 2 ^ 52 → Magnitude e t (closest (2 ^ 52 + t) (2 ^ (926 - e)))
+abbrev Least : ℕ → ℕ → ℕ
+Least e t = closest (2 ^ 52 + t) (2 ^ (926 - e))
+
+pub mag-sub : (e t : ℕ) → 872 ≤ e → e < 897 → t < 2 ^ 52 → Magnitude e t (Least e t)
 mag-sub zero t a h l = absurd (no a)
   where
     no : 872 ≤ 0 → ⊥
     no h = omega arith
 mag-sub (suc x) t a h l = record { small = le_trans low (lit≤ tt); bits = λ s. ap (to_bits binary32) (ties-to-even-is s ((2 ^ 52 + t) * 2 ^ x)) ∙ at s }
   where
-    low : closest (2 ^ 52 + t) (2 ^ (926 - suc x)) ≤ 2 ^ 23
+    low : Least (suc x) t ≤ 2 ^ 23
     low =
         le_trans (nearest-le ((2 ^ 52 + t) / 2 ^ (926 - suc x)) (compare ((2 ^ 52 + t) % 2 ^ (926 - suc x) * 2) (2 ^ (926 - suc x))))
         (shr_lt 23 (926 - suc x) (lt_of_lt_of_le (lead-hi t l) (pow_mono (sh-fits x h))))
 
     k : size ((2 ^ 52 + t) * 2 ^ x * 2 ^ 149 / 2 ^ 1074) - 24 ≡ 0
     k =
-        few-digits (size ((2 ^ 52 + t) * 2 ^ x * 2 ^ 149 / 2 ^ 1074))
-        (size-le ((2 ^ 52 + t) * 2 ^ x * 2 ^ 149 / 2 ^ 1074) 24 (shr_lt 24 1074 (lt_of_lt_of_le (shl_lt (53 + x) 149 (shl_lt 53 x (lead-hi t l))) (pow_mono (sh-few x h)))))
+        let n = (2 ^ 52 + t) * 2 ^ x * 2 ^ 149 / 2 ^ 1074 in
+        few-digits (size n)
+        (size-le n 24 (shr_lt 24 1074 (lt_of_lt_of_le (shl_lt (53 + x) 149 (shl_lt 53 x (lead-hi t l))) (pow_mono (sh-few x h)))))
 
     small277 : (r : ℕ) → r ≤ 2 ^ 23 → r * 2 ^ 0 < 2 ^ 277
     small277 r h = lt_of_le_of_lt (mul-le-mul_right 1 h) (lit< tt)
 
-    at : (s : Bool) → to_bits binary32 (round binary32 s ((2 ^ 52 + t) * 2 ^ x) (2 ^ 1074)) ≡ cond s (2 ^ 31) 0 + closest (2 ^ 52 + t) (2 ^ (926 - suc x))
+    at : (s : Bool) → to_bits binary32 (round binary32 s ((2 ^ 52 + t) * 2 ^ x) (2 ^ 1074)) ≡ cond s (2 ^ 31) 0 + Least (suc x) t
     at s =
-        ap (to_bits binary32) (round-at s ((2 ^ 52 + t) * 2 ^ x) 0 (2 ^ 52 + t) (2 ^ (926 - suc x)) (pow_pos (926 - suc x)) k (regroup (2 ^ 52 + t) x 149 1074 0 (926 - suc x) (sh-sum x h)))
-        ∙ finite-bits s (closest (2 ^ 52 + t) (2 ^ (926 - suc x))) 0 (wide (closest (2 ^ 52 + t) (2 ^ (926 - suc x))) low) (λ _. refl) (small277 (closest (2 ^ 52 + t) (2 ^ (926 - suc x))) low)
-        ∙ ap (λ (z : ℕ). cond s (2 ^ 31) 0 + z) (zero-add (closest (2 ^ 52 + t) (2 ^ (926 - suc x))))
+        let n = 2 ^ 52 + t in
+        let u = 926 - suc x in
+        let r = Least (suc x) t in
+        ap (to_bits binary32) (round-at s (n * 2 ^ x) 0 n (2 ^ u) (pow_pos u) k (regroup n x 149 1074 0 u (sh-sum x h)))
+        ∙ finite-bits s r 0 (wide r low) (λ _. refl) (small277 r low)
+        ∙ ap (λ (z : ℕ). cond s (2 ^ 31) 0 + z) (zero-add r)
 
 -- 24 digits
 abbrev Top : ℕ → ℕ
@@ -146,10 +154,12 @@ k-is x z h e = omega arith
 k-sum : (x : ℕ) → 897 ≤ suc x → x + 149 + 29 ≡ 1074 + (suc x - 897)
 k-sum x h = omega arith
 
-normal-round : (s : Bool) (x t : ℕ) → 897 ≤ suc x → t < 2 ^ 52 → round binary32 s ((2 ^ 52 + t) * 2 ^ x) (2 ^ 1074) ≡ units binary32 s (Top t) (suc x - 897)
+normal-round : (s : Bool) (x t : ℕ) → 897 ≤ suc x → t < 2 ^ 52
+    → round binary32 s ((2 ^ 52 + t) * 2 ^ x) (2 ^ 1074) ≡ units binary32 s (Top t) (suc x - 897)
 normal-round s x t h l =
     round-at s ((2 ^ 52 + t) * 2 ^ x) (suc x - 897) (2 ^ 52 + t) (2 ^ 29) (pow_pos 29)
-    (k-is x (size ((2 ^ 52 + t) * 2 ^ x * 2 ^ 149 / 2 ^ 1074)) h (size-at (2 ^ 52 + t) x 149 1074 52 (x - 873) (lead-lo t) (lead-hi t l) (j-sum x h) (j_sum' x h)))
+    (k-is x (size ((2 ^ 52 + t) * 2 ^ x * 2 ^ 149 / 2 ^ 1074)) h
+    (size-at (2 ^ 52 + t) x 149 1074 52 (x - 873) (lead-lo t) (lead-hi t l) (j-sum x h) (j_sum' x h)))
     (regroup (2 ^ 52 + t) x 149 1074 (suc x - 897) 29 (k-sum x h))
 
 -- ---- the threshold, in an f64's bits
@@ -158,7 +168,8 @@ last-exponent e t h = omega arith
 
 fin-below : (e t : ℕ) → t < 2 ^ 52 → e * 2 ^ 52 + t < 0x47ef_ffff_f000_0000 → (e - 897) * 2 ^ 23 + Top t < 0x7f80_0000
 fin-below e t l h = elim (eq-or-lt_of_le (last-exponent e t h)) [
-  | inl a ↦ at_last e (Top t) a (closest_mono (2 ^ 52 + t) (2 ^ 29) (2 ^ 53 - 2 ^ 28 - 1) (2 ^ 29) (pow_pos 29) (pow_pos 29) (mul-le-mul_right (2 ^ 29) (short e t a h)))
+  | inl a ↦ at_last e (Top t) a
+      (closest_mono (2 ^ 52 + t) (2 ^ 29) (2 ^ 53 - 2 ^ 28 - 1) (2 ^ 29) (pow_pos 29) (pow_pos 29) (mul-le-mul_right (2 ^ 29) (short e t a h)))
   | inr a ↦ before e (Top t) a (top-hi t l)
 ]
   where
@@ -195,7 +206,8 @@ mag-fin zero t a l m = absurd (no_897 a)
 mag-fin (suc x) t a l m = record {
   small = le_of_lt (fin-below (suc x) t l m);
   bits = λ s. ap (to_bits binary32) (ties-to-even-is s ((2 ^ 52 + t) * 2 ^ x) ∙ normal-round s x t a l)
-      ∙ finite-bits s (Top t) (suc x - 897) (top-hi t l) (not-below (Top t) (suc x - 897) (top-lo t)) (under (Top t) (suc x - 897) (top-lo t) (top-hi t l) (fin-below (suc x) t l m));
+      ∙ finite-bits s (Top t) (suc x - 897) (top-hi t l) (not-below (Top t) (suc x - 897) (top-lo t))
+      (under (Top t) (suc x - 897) (top-lo t) (top-hi t l) (fin-below (suc x) t l m));
 }
 
 -- ---- what the code's needs ask

@@ -1,4 +1,5 @@
--- Of the two numbers that bracket a value, the one that is delivered: what the code asks of it, and that it is the kit's `closest`. Assumes nothing.
+-- Of the two numbers that bracket a value, the one that is delivered: what the code asks of it, and that it is `closest`.
+-- Assumes nothing.
 use mathlib.Core.Path.{◌≡◌, refl, sym, ap, ◌∙◌, subst}
 use mathlib.Core.Logic.{inl, inr}
 use Prim.Native.Nat.{ℕ, zero, suc, ◌+◌, ◌-◌, ◌*◌, ◌/◌, ◌%◌, ◌≤◌, ◌<◌, compare, Ordering}

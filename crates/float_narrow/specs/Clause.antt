@@ -1,4 +1,5 @@
--- An f64 to f32 as IEEE 754-2019 tells it, clause 4.3.1, in its order; quotation marks are for its words. Of binary32 b is 2, p is 24 and emax is 127.
+-- An f64 to f32 as IEEE 754-2019 tells it, clause 4.3.1, in its order; quotation marks are for its words.
+-- Of binary32 b is 2, p is 24 and emax is 127.
 -- proofs/Clause.antt shows that on every f64 it is `narrow`, which contracts name.
 use Prim.Native.Nat.{ℕ, suc, ◌-◌, ◌*◌, ◌/◌, ◌%◌, ◌^◌, max, compare, Ordering}
 use Rattle.std.specs.Prelude.{Bool, cond, leb, eqb, ℤ, Float}
@@ -13,7 +14,8 @@ exact m e = m * up e * (2 ^ 1074 / down e)
 unfoldable pub overflows : ℕ → Bool
 overflows v = leb (2 ^ 127 * (2 * 2 ^ 24 - 1) * 2 ^ 1074) (v * 2 ^ 24)
 
--- "Floating-point numbers" have p digits, and the last has the format's least exponent, -149, or a greater one. Counted from -1074:
+-- "Floating-point numbers" have p digits, and the last has the format's least exponent, -149, or a greater one.
+-- Counted from -1074:
 unfoldable pub last_digit : ℕ → ℕ
 last_digit v = max (1074 - 149) (size v - 24)
 
@@ -36,8 +38,8 @@ unfoldable pub delivered : ℕ → ℕ → ℕ
 unfolding lower upper nearer
 delivered v unit = nearer (compare (v - lower v unit * unit) (upper v unit * unit - v)) (lower v unit) (upper v unit)
 
--- "Shall round to infinity with no change in sign", or what is delivered, which has 25 digits at most: `odd` writes a number in the kit's one way.
--- A zero is a number like any other, and keeps its sign.
+-- "Shall round to infinity with no change in sign", or what is delivered, which has 25 digits at most:
+-- `odd` writes a number in the kit's one way. A zero is a number like any other, and keeps its sign.
 unfoldable pub round_ties_to_even : Bool → ℕ → Float
 unfolding overflows last_digit delivered odd
 round_ties_to_even s v = cond (overflows v) (inf s) (odd 25 s (delivered v (2 ^ last_digit v)) (last_digit v) 1074)

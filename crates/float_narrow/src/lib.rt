@@ -1,4 +1,4 @@
-// An f64 to the nearest f32, in the order of IEEE 754-2019, clause 4.3.1 (round_ties_to_even): what stands in quotes is the clause's.
+// An f64 to the nearest f32, in the order of IEEE 754-2019, clause 4.3.1 (round_ties_to_even): what stands in quotes is its words.
 // So it is written out, in place of the library's `std::num::nearest_f64_to_f32_with_nan`.
 
 #![tactic(auto)]
@@ -35,8 +35,8 @@ fn nearest(q: u64, u: u64) -> u64
     }
 }
 
-// The bits, without the sign's, of the number nearest to what an f64's fields e and t stand for: of those with 24 digits, the last
-// with an exponent not below the format's least.
+// The bits, without the sign's, of the number nearest to what an f64's fields e and t stand for:
+// of those with 24 digits, the last with an exponent not below the format's least.
 fn nearest_number(e: u64, t: u64) -> u64
     requires t_bound { e * 2 ^ 52 + t < 0x47ef_ffff_f000_0000 }
     requires t_bound_2 { t < 2 ^ 52 }
@@ -86,8 +86,8 @@ fn narrow_bits(b: u64) -> u32
 pub fn f64_to_f32(x: f64) -> f32
     ensures { result ≡ narrow x }
 {
-    if x != x {
-        return 0.0 / 0.0;
+    if x.is_nan() {
+        return f32::NAN;
     }
     f32::from_bits(narrow_bits(x.to_bits()))
 }

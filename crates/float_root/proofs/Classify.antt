@@ -87,7 +87,8 @@ pub neg_bits : (b : ℕ) → 2 ^ 31 < b → b < 2 ^ 32 → T (not (is_nan (of_bi
 neg_bits b h l n =
     let e = b % 2 ^ 31 / 2 ^ 23 in
     let t = b % 2 ^ 23 in
-    let i : of_bits binary32 b ≡ of_fields binary32 true e t = of_bits_is binary32 b ∙ ap (λ (s : Bool). of_fields binary32 s e t) (is_true (leb (2 ^ 31) b) (le→leb (2 ^ 31) b (low b h))) in
+    let i : of_bits binary32 b ≡ of_fields binary32 true e t =
+    of_bits_is binary32 b ∙ ap (λ (s : Bool). of_fields binary32 s e t) (is_true (leb (2 ^ 31) b) (le→leb (2 ^ 31) b (low b h))) in
     subst (λ (v : Float). nan ≡ sqrt_of v) (sym i) (neg-fields e t (field-le b) (some-digit b h l) (subst (λ (v : Float). T (not (is_nan v))) i n))
   where
     low : (b : ℕ) → 2 ^ 31 < b → 2 ^ 31 ≤ b
@@ -125,7 +126,8 @@ sig_lt (suc x) t h l = lt_of_lt_of_le (shl_lt 24 x (lead t l)) (pow_mono (top x 
     top : (x : ℕ) → suc x < 255 → 24 + x ≤ 277
     top x h = omega arith
 
-pub root_is : (b r : ℕ) → 0 < b → b < 0x7f80_0000 → RootBits (significand binary32 (b / 2 ^ 23) (b % 2 ^ 23) * 2 ^ 149) r → of_bits binary32 r ≡ sqrt_of (of_bits binary32 b)
+pub root_is : (b r : ℕ) → 0 < b → b < 0x7f80_0000 → RootBits (significand binary32 (b / 2 ^ 23) (b % 2 ^ 23) * 2 ^ 149) r
+    → of_bits binary32 r ≡ sqrt_of (of_bits binary32 b)
 root_is b r p h w =
     let x = b / 2 ^ 23 in
     let t = b % 2 ^ 23 in

@@ -2,7 +2,8 @@
 use mathlib.Core.Path.{◌≡◌, refl, sym, ap, ◌∙◌, subst}
 use mathlib.Core.Logic.{inl, inr}
 use Prim.Native.Nat.{ℕ, zero, suc, ◌+◌, ◌-◌, ◌*◌, ◌/◌, ◌%◌, ◌^◌, ◌≤◌, ◌<◌}
-use native.Mathlib.Nat.{le_trans, le_of_eq, lt_of_le_of_lt, mul-one, mul_assoc, mul_right_comm, mul-le-mul_right, mul-lt-mul_of_pos_right, lt_of_mul-lt-mul_right, mod-lt, lt_irrefl}
+use native.Mathlib.Nat.{le_trans, le_of_eq, lt_of_le_of_lt, lt_irrefl, mod-lt}
+use native.Mathlib.Nat.{mul-one, mul_assoc, mul_right_comm, mul-le-mul_right, mul-lt-mul_of_pos_right, lt_of_mul-lt-mul_right}
 use native.Mathlib.Omega.{arith}
 use mathlib.Core.Bool.{true, false, ◌&&◌}
 use lib.IntN.{ℤ, pos, negsuc}
@@ -88,10 +89,13 @@ root-of n m k w =
 
 has-root : (a : ℕ) → 0 < a → a < 2 ^ 277 → Shape a → (r : ℕ) × RootBits (a * 2 ^ 149) r
 has-root a p l (q, x, s, e) =
-    let z : a * 2 ^ 149 ≡ q * 2 ^ (x + 149) = ap (λ (z : ℕ). z * 2 ^ 149) e ∙ mul_assoc q (2 ^ x) (2 ^ 149) ∙ ap (λ (z : ℕ). q * z) (sym (pow-add 2 x 149)) in
+    let z : a * 2 ^ 149 ≡ q * 2 ^ (x + 149) =
+    ap (λ (z : ℕ). z * 2 ^ 149) e ∙ mul_assoc q (2 ^ x) (2 ^ 149) ∙ ap (λ (z : ℕ). q * z) (sym (pow-add 2 x 149)) in
     let Q : 0 < q = some q (subst (λ (z : ℕ). 0 < z) e p) in
     let h = x + 149 in
-    let c = scaling q h Q (omega arith) (subst (λ (z : ℕ). z < 2 ^ 426) z (shl_lt 277 149 l)) (h / 2) (q * (1 + h % 2)) (start q h) (first_small q (h % 2) s (mod-lt h (lit< tt))) in
+    let c = scaling q h Q (omega arith) (subst (λ (z : ℕ). z < 2 ^ 426) z (shl_lt 277 149 l))
+    (h / 2) (q * (1 + h % 2))
+    (start q h) (first_small q (h % 2) s (mod-lt h (lit< tt))) in
     root-of (a * 2 ^ 149) c.0 c.1 (subst (λ (v : ℕ). ScaledTo v c.0 c.1) (sym z) c.2)
   where
     some : (q : ℕ) → 0 < q * 2 ^ x → 0 < q
@@ -109,7 +113,8 @@ sqrt-nearest x f p =
     let (u, r, w, e) = found x f p in
     subst (NearRoot x) (sym e) (near-root x u.0 r u.1 w)
 
--- ---- half a step, over squares: where x is a units and its root c, a * 2 ^ 149 differs from c * c by at most one part in 2 ^ 23 of that
+-- ---- half a step, over squares: where x is a units and its root c,
+-- a * 2 ^ 149 differs from c * c by at most one part in 2 ^ 23 of that
 pub record RootWithin (x : Float) : Type 0 where
   pub a : ℕ
   pub c : ℕ

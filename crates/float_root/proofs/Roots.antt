@@ -4,7 +4,8 @@ use mathlib.Core.Logic.{◌⊎◌, inl, inr}
 use Prim.Native.Nat.{ℕ, zero, suc, ◌+◌, ◌-◌, ◌*◌, ◌/◌, ◌%◌, ◌^◌, ◌≤◌, ◌<◌}
 use native.Mathlib.Nat.{le_trans, le_of_eq, le_of_lt, lt_of_lt_of_le, lt_of_le_of_lt, lt_of_not-le, not-le_of_lt}
 use native.Mathlib.Nat.{mul-one, mul_assoc, mul-le-mul, mul-le-mul_left, mul-le-mul_right, mul-lt-mul_of_pos_right, pow-succ'}
-use native.Mathlib.Nat.{zero-add, zero-mul, zero-lt-suc, lt_irrefl, mul-pos, mul-mul-mul_comm, le_of_suc-le-suc, eq-or-lt_of_le, eq_of_mul-eq-mul_right, lt_of_mul-lt-mul_right}
+use native.Mathlib.Nat.{zero-add, zero-mul, zero-lt-suc, lt_irrefl, mul-pos, mul-mul-mul_comm, le_of_suc-le-suc, eq-or-lt_of_le}
+use native.Mathlib.Nat.{eq_of_mul-eq-mul_right, lt_of_mul-lt-mul_right}
 use native.Mathlib.Omega.{arith}
 use mathlib.Core.Bool.{false, ◌&&◌}
 use lib.IntN.{ℤ, pos, negsuc}
@@ -169,15 +170,20 @@ shape (fin s (suc m) e) b f h =
     let B = ltb (suc m) (2 ^ 24) in
     let C = leb (down e) (2 ^ 149) in
     let D = ltb (suc m * up e) (2 ^ 128 * down e) in
-    shape_at (suc m) e b (ltb→lt (suc m) (2 ^ 24) (and_r A B (and_l (A && B) C (and_l (A && B && C) D f)))) (leb→le (down e) (2 ^ 149) (and_r (A && B) C (and_l (A && B && C) D f))) h.1
+    shape_at (suc m) e b (ltb→lt (suc m) (2 ^ 24) (and_r A B (and_l (A && B) C (and_l (A && B && C) D f))))
+    (leb→le (down e) (2 ^ 149) (and_r (A && B) C (and_l (A && B && C) D f)))
+    h.1
 
 -- from 2 ^ (23 + k) units on, a value is a multiple of 2 ^ k of them
 multiple : (b k : ℕ) → Shape b → 2 ^ 23 * 2 ^ k ≤ b → (j : ℕ) × (b ≡ j * 2 ^ k)
 multiple b k (n, x, l, e) h =
     let g : k ≤ x =
     le_of_suc-le-suc (lt_of_not-le (λ (g : suc x ≤ k). not-le_of_lt (subst (λ (z : ℕ). z < 2 ^ (24 + x)) (sym e) (shl_lt 24 x l))
-    (le_trans (pow_mono (less x k g)) (le_trans (le_of_eq (pow-add 2 23 k)) h)))) in
-    (n * 2 ^ (x - k), e ∙ ap (λ (z : ℕ). n * 2 ^ z) (sym (back x k g)) ∙ ap (λ (z : ℕ). n * z) (pow-add 2 (x - k) k) ∙ sym (mul_assoc n (2 ^ (x - k)) (2 ^ k)))
+    (le_trans (pow_mono (less x k g)) (le_trans (le_of_eq (pow-add 2 23 k)) h)))) in (
+      n * 2 ^ (x - k),
+      e ∙ ap (λ (z : ℕ). n * 2 ^ z) (sym (back x k g))
+          ∙ ap (λ (z : ℕ). n * z) (pow-add 2 (x - k) k) ∙ sym (mul_assoc n (2 ^ (x - k)) (2 ^ k)),
+    )
   where
     less : (x k : ℕ) → suc x ≤ k → 24 + x ≤ 23 + k
     less x k h = omega arith
@@ -192,7 +198,8 @@ module _ (n m q p : ℕ) (p-pos : 0 < p) (same : m * (p * p) ≡ n) where
       let s : (2 * q + 1) * p ≤ b + q * p = omega arith in
       let i : 4 * m < (2 * q + 1) * (2 * q + 1) = omega arith in
       lt_of_lt_of_le
-      (subst (λ (z : ℕ). 4 * z < (2 * q + 1) * (2 * q + 1) * (p * p)) same (lt_of_le_of_lt (le_of_eq (sym (mul_assoc 4 m (p * p)))) (mul-lt-mul_of_pos_right i (mul-pos p-pos p-pos))))
+      (subst (λ (z : ℕ). 4 * z < (2 * q + 1) * (2 * q + 1) * (p * p)) same
+      (lt_of_le_of_lt (le_of_eq (sym (mul_assoc 4 m (p * p)))) (mul-lt-mul_of_pos_right i (mul-pos p-pos p-pos))))
       (le_trans (le_of_eq (mul-mul-mul_comm (2 * q + 1) (2 * q + 1) p p)) (mul-le-mul s s))
 
   below-mid : (b w : ℕ) → q ≡ suc w → q * q < m + q → b ≤ w * p → (b + q * p) * (b + q * p) < 4 * n
@@ -203,7 +210,8 @@ module _ (n m q p : ℕ) (p-pos : 0 < p) (same : m * (p * p) ≡ n) where
       let i : (2 * w + 1) * (2 * w + 1) < 4 * m = omega arith in
       lt_of_le_of_lt
       (le_trans (mul-le-mul s s) (le_of_eq (sym (mul-mul-mul_comm (2 * w + 1) (2 * w + 1) p p))))
-      (subst (λ (z : ℕ). (2 * w + 1) * (2 * w + 1) * (p * p) < 4 * z) same (lt_of_lt_of_le (mul-lt-mul_of_pos_right i (mul-pos p-pos p-pos)) (le_of_eq (mul_assoc 4 m (p * p)))))
+      (subst (λ (z : ℕ). (2 * w + 1) * (2 * w + 1) * (p * p) < 4 * z) same
+      (lt_of_lt_of_le (mul-lt-mul_of_pos_right i (mul-pos p-pos p-pos)) (le_of_eq (mul_assoc 4 m (p * p)))))
 
   -- q is the least of its binade, and √m is no less
   at_least : (b : ℕ) → q * q ≤ m → b < q * p → (b + q * p) * (b + q * p) < 4 * n
@@ -227,7 +235,9 @@ suc-of q h = omega arith
 -- ---- the value that the bits stand for
 units-fits : (q k : ℕ) → q ≤ 2 ^ 24 → q * 2 ^ k < 2 ^ 277 → T (fits binary32 (units binary32 false q k))
 unfolding units
-units-fits q k h l = cond-fits binary32 (ltb (q * 2 ^ k) (2 ^ 277)) (odd 25 false q k 149) (inf false) (odd-fits binary32 25 false q k (lt_of_le_of_lt h (lit< tt)) h l) (inf-fits binary32 false)
+units-fits q k h l =
+    cond-fits binary32 (ltb (q * 2 ^ k) (2 ^ 277)) (odd 25 false q k 149) (inf false)
+    (odd-fits binary32 25 false q k (lt_of_le_of_lt h (lit< tt)) h l) (inf-fits binary32 false)
 
 in-range : (q k : ℕ) → q ≤ 2 ^ 24 → k ≤ 201 → q * 2 ^ k < 2 ^ 277
 in-range q k h l = lt_of_le_of_lt (mul-le-mul h (pow_mono l)) (lit< tt)
@@ -265,21 +275,29 @@ near-root x a r h w =
       above = λ y b f v l. above (a * 2 ^ 149) m k q b s w.low w.over (shape y b f v) l;
     }
   where
-    above : (n m k q b : ℕ) → m * (2 ^ k * 2 ^ k) ≡ n → 2 ^ 23 ≤ q → m ≤ q * q + q → Shape b → q * 2 ^ k < b → 4 * n < (b + q * 2 ^ k) * (b + q * 2 ^ k)
+    above : (n m k q b : ℕ) → m * (2 ^ k * 2 ^ k) ≡ n → 2 ^ 23 ≤ q → m ≤ q * q + q → Shape b → q * 2 ^ k < b
+        → 4 * n < (b + q * 2 ^ k) * (b + q * 2 ^ k)
     above n m k q b s lo h z l =
         let g = multiple b k z (le_trans (mul-le-mul_right (2 ^ k) lo) (le_of_lt l)) in
-        above-mid n m q (2 ^ k) (pow_pos k) s b h (le_trans (mul-le-mul_right (2 ^ k) (lt_of_mul-lt-mul_right (2 ^ k) (subst (λ (t : ℕ). q * 2 ^ k < t) g.1 l))) (le_of_eq (sym g.1)))
+        above-mid n m q (2 ^ k) (pow_pos k) s b h
+        (le_trans (mul-le-mul_right (2 ^ k) (lt_of_mul-lt-mul_right (2 ^ k) (subst (λ (t : ℕ). q * 2 ^ k < t) g.1 l)))
+        (le_of_eq (sym g.1)))
 
-    under_it : (k q b w : ℕ) → q ≡ suc w → 2 ^ 23 ≤ w → Shape b → b < q * 2 ^ k → (b < 2 ^ 23 * 2 ^ k) ⊎ (2 ^ 23 * 2 ^ k ≤ b) → b ≤ w * 2 ^ k
+    under_it : (k q b w : ℕ) → q ≡ suc w → 2 ^ 23 ≤ w → Shape b → b < q * 2 ^ k
+        → (b < 2 ^ 23 * 2 ^ k) ⊎ (2 ^ 23 * 2 ^ k ≤ b) → b ≤ w * 2 ^ k
     under_it k q b w e lo z l (inl g) = le_trans (le_of_lt g) (mul-le-mul_right (2 ^ k) lo)
     under_it k q b w e lo z l (inr g) =
         let j = multiple b k z g in
-        le_trans (le_of_eq j.1) (mul-le-mul_right (2 ^ k) (le_of_suc-le-suc (subst (λ (t : ℕ). j.0 < t) e (lt_of_mul-lt-mul_right (2 ^ k) (subst (λ (t : ℕ). t < q * 2 ^ k) j.1 l)))))
+        le_trans (le_of_eq j.1)
+        (mul-le-mul_right (2 ^ k) (le_of_suc-le-suc (subst (λ (t : ℕ). j.0 < t) e
+        (lt_of_mul-lt-mul_right (2 ^ k) (subst (λ (t : ℕ). t < q * 2 ^ k) j.1 l)))))
 
-    below : (n m k q b : ℕ) → m * (2 ^ k * 2 ^ k) ≡ n → 2 ^ 23 ≤ q → 2 ^ 46 ≤ m → q * q < m + q → Shape b → b < q * 2 ^ k → (b + q * 2 ^ k) * (b + q * 2 ^ k) < 4 * n
+    below : (n m k q b : ℕ) → m * (2 ^ k * 2 ^ k) ≡ n → 2 ^ 23 ≤ q → 2 ^ 46 ≤ m → q * q < m + q
+        → Shape b → b < q * 2 ^ k → (b + q * 2 ^ k) * (b + q * 2 ^ k) < 4 * n
     below n m k q b s lo h u z l = elim (eq-or-lt_of_le lo) [
       | inl e ↦ at_least n m q (2 ^ k) (pow_pos k) s b (le_trans (le_of_eq (ap (λ (t : ℕ). t * t) (sym e))) h) l
       | inr g ↦
           let e : q ≡ suc (q - 1) = suc-of q (le_trans (lit≤ tt) lo) in
-          below-mid n m q (2 ^ k) (pow_pos k) s b (q - 1) e u (under_it k q b (q - 1) e (cut q (q - 1) e g) z l (here_or_on b (2 ^ 23 * 2 ^ k)))
+          below-mid n m q (2 ^ k) (pow_pos k) s b (q - 1) e u
+          (under_it k q b (q - 1) e (cut q (q - 1) e g) z l (here_or_on b (2 ^ 23 * 2 ^ k)))
     ]

@@ -55,7 +55,8 @@ square-unsigned (fin true n d) = round-unsigned (n * up d * (n * up d)) (down d 
 square-unsigned (fin false n d) = round-unsigned (n * up d * (n * up d)) (down d * down d)
 
 -- ---- a positive f32 and more, rounded
-rounded : (m : ℕ) (e : ℤ) (d : ℕ) → 0 < d → T (fits binary32 (fin false m e)) → T (ltb 0 m) → T (positive (round binary32 false (m * up e * d) (down e * d)))
+rounded : (m : ℕ) (e : ℤ) (d : ℕ) → 0 < d → T (fits binary32 (fin false m e)) → T (ltb 0 m)
+    → T (positive (round binary32 false (m * up e * d) (down e * d)))
 rounded m e d D f p =
     let x = fin false m e in
     let u = units_of x f p in
@@ -92,7 +93,9 @@ grows (fin false m e) (fin false n d) f p q =
     let c = down e * down d in
     let C : 0 < c = mul-pos (down_pos e) (down_pos d) in
     above-lifted (round binary32 false (a + b) c)
-    (above_of_le (round binary32 false a c) (round binary32 false (a + b) c) (rounded m e (down d) (down_pos d) f p) (round_mono binary32 a c (a + b) c C C (mul-le-mul_right c (le-add_right a b))))
+    (above_of_le (round binary32 false a c) (round binary32 false (a + b) c)
+    (rounded m e (down d) (down_pos d) f p)
+    (round_mono binary32 a c (a + b) c C C (mul-le-mul_right c (le-add_right a b))))
 
 -- ---- the sums
 abbrev pub energy : (ℕ → Float) → ℕ → Float
@@ -133,7 +136,8 @@ one = of_bits binary32 0x3f80_0000
 abbrev most : Float
 most = of_bits binary32 0x4200_0000
 
-pub constants_apart : (x : Float) → T (fits binary32 x) → (max_of x (neg one) ≡ max_of (neg one) x) × (max_of x one ≡ max_of one x) × (min_of x most ≡ min_of most x)
+pub constants_apart : (x : Float) → T (fits binary32 x)
+    → (max_of x (neg one) ≡ max_of (neg one) x) × (max_of x one ≡ max_of one x) × (min_of x most ≡ min_of most x)
 unfolding of_bits neg
 constants_apart x f = (
   max-either x (neg one) f (neg-fits binary32 one (of_bits-fits binary32 0x3f80_0000)) (with_constant x (neg one) refl),

@@ -2,8 +2,9 @@
 use mathlib.Core.Path.{◌≡◌, refl, sym, ap, ◌∙◌, subst}
 use mathlib.Core.Logic.{◌⊎◌, inl, inr}
 use Prim.Native.Nat.{ℕ, zero, suc, ◌+◌, ◌-◌, ◌*◌, ◌/◌, ◌%◌, ◌^◌, ◌≤◌, ◌<◌, zero-le, compare}
-use native.Mathlib.Nat.{le_trans, le_of_lt, le_of_eq, lt_of_le_of_lt, lt_of_lt_of_le, lt_of_not-le, not-le_of_lt, eq-or-lt_of_le, pow-succ', mul-mul-mul_comm}
-use native.Mathlib.Nat.{mul_assoc, mul-one, mul_right_comm, mul-pos, mul-le-mul, mul-le-mul_right, mul-lt-mul_of_pos_right, lt_of_mul-lt-mul_right, mul-div_cancel, mod-lt, div-add-mod'}
+use native.Mathlib.Nat.{le_trans, le_of_lt, le_of_eq, lt_of_le_of_lt, lt_of_lt_of_le, lt_of_not-le, not-le_of_lt, eq-or-lt_of_le, pow-succ'}
+use native.Mathlib.Nat.{mul_assoc, mul-one, mul_right_comm, mul-mul-mul_comm, mul-pos, mul-le-mul, mul-le-mul_right, mul-lt-mul_of_pos_right}
+use native.Mathlib.Nat.{lt_of_mul-lt-mul_right, mul-div_cancel, mod-lt, div-add-mod'}
 use native.Mathlib.Omega.{arith}
 use mathlib.Core.Bool.{Bool, true, false, cond}
 use lib.Dec.{T, leb, eqb, lit<, lit≤}
@@ -134,8 +135,10 @@ module _ (n m w j : ℕ) (few : n < 4 ^ 213) (same : m * (2 ^ suc j * 2 ^ suc j)
   digits =
       ap (λ (z : ℕ). closest (twice_root n) (2 * z)) (pow-succ' 2 j)
       ∙ kept (twice_root n) w (2 ^ j) (pow_pos j)
-      (twice-over n few ((2 * w + 1) * 2 ^ j) (subst (λ (z : ℕ). (2 * w + 1) * 2 ^ j * ((2 * w + 1) * 2 ^ j) < z) same' (low-mid m w (2 ^ j) (pow_pos j) under)))
-      (twice-under n few ((2 * (w + 1) + 1) * 2 ^ j) (subst (λ (z : ℕ). z < (2 * (w + 1) + 1) * 2 ^ j * ((2 * (w + 1) + 1) * 2 ^ j)) same' (high-mid m (w + 1) (2 ^ j) (pow_pos j) over)))
+      (twice-over n few ((2 * w + 1) * 2 ^ j)
+      (subst (λ (z : ℕ). (2 * w + 1) * 2 ^ j * ((2 * w + 1) * 2 ^ j) < z) same' (low-mid m w (2 ^ j) (pow_pos j) under)))
+      (twice-under n few ((2 * (w + 1) + 1) * 2 ^ j)
+      (subst (λ (z : ℕ). z < (2 * (w + 1) + 1) * 2 ^ j * ((2 * (w + 1) + 1) * 2 ^ j)) same' (high-mid m (w + 1) (2 ^ j) (pow_pos j) over)))
 
   -- 2 ^ (i + k) squared
   square : (i : ℕ) → 2 ^ (i + suc j) * 2 ^ (i + suc j) ≡ 2 ^ i * 2 ^ i * (2 ^ suc j * 2 ^ suc j)
@@ -144,10 +147,12 @@ module _ (n m w j : ℕ) (few : n < 4 ^ 213) (same : m * (2 ^ suc j * 2 ^ suc j)
   sized : size (twice_root n / 2) ≡ suc (23 + suc j)
   sized =
       halved (twice_root n) (23 + suc j)
-      (twice-reach n few (2 ^ (23 + suc j)) (le_trans (le_of_eq (square 23)) (le_trans (mul-le-mul_right (2 ^ suc j * 2 ^ suc j) lo) (le_of_eq same))))
+      (twice-reach n few (2 ^ (23 + suc j)) (le_trans (le_of_eq (square 23))
+      (le_trans (mul-le-mul_right (2 ^ suc j * 2 ^ suc j) lo) (le_of_eq same))))
       (twice-under n few (2 ^ suc (23 + suc j))
       (subst (λ (z : ℕ). n < 2 ^ z * 2 ^ z) (one_up j)
-      (lt_of_le_of_lt (le_of_eq (sym same)) (lt_of_lt_of_le (mul-lt-mul_of_pos_right hi (mul-pos (pow_pos (suc j)) (pow_pos (suc j)))) (le_of_eq (sym (square 24)))))))
+      (lt_of_le_of_lt (le_of_eq (sym same)) (lt_of_lt_of_le
+      (mul-lt-mul_of_pos_right hi (mul-pos (pow_pos (suc j)) (pow_pos (suc j)))) (le_of_eq (sym (square 24)))))))
     where
       one_up : (j : ℕ) → 24 + suc j ≡ suc (23 + suc j)
       one_up j = omega arith

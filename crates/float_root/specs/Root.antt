@@ -24,8 +24,10 @@ sqrt_of (fin s zero e) = fin s zero e
 sqrt_of (fin true (suc m) e) = nan
 sqrt_of (fin false (suc m) e) = round binary32 false (twice_root (suc m * up e * 2 ^ 298 / down e)) (2 ^ 150)
 
--- What nearest means, by whole-number squares. A finite f32 is a whole number of units of 2 ^ -149: where x is a of them, √x is √(a * 2 ^ 149).
--- r is an f32, and nearer to √x than any other finite f32 y that is not negative: √x lies on r's side of the middle of y and r, and is not the middle.
+-- What nearest means, by whole-number squares.
+-- A finite f32 is a whole number of units of 2 ^ -149: where x is a of them, √x is √(a * 2 ^ 149).
+-- r is an f32, and nearer to √x than any other finite f32 y that is not negative:
+-- √x lies on r's side of the middle of y and r, and is not the middle.
 pub record NearRoot (x r : Float) : Type 0 where
   pub a : ℕ
   pub c : ℕ

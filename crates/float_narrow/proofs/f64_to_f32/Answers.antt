@@ -2,20 +2,14 @@ use mathlib.Core.Path.{◌≡◌, sym, ap, ◌∙◌, subst}
 use mathlib.Core.Bool.{Bool, not}
 use Prim.Native.Nat.{ℕ}
 use lib.Dec.{T}
-use lib.Ieee.{Float, nan, binary32, binary64, is_nan, fits, of_bits, to_bits, div}
+use lib.Ieee.{Float, binary32, binary64, is_nan, fits, of_bits, to_bits}
 use lib.Ieee.Bits.{of_bits-to_bits, nan_bits_is}
-use lib.Ieee.Compare.{differs_from_itself}
 use Rattle.float_narrow.specs.Narrow.{narrow}
 use Rattle.float_narrow.specs.Clause.{clause}
-use Rattle.float_bits.proofs.Word.{real}
+use Rattle.float_bits.proofs.Word.{real, nan-is, nan-bits}
 use Rattle.float_narrow.proofs.Clause.{clause-narrow}
 use Rattle.float_narrow.proofs.Decode.{narrow-fits, narrow-real}
 use Rattle.float_narrow.proofs.f64_to_f32.Goals as goal
-
--- 0.0 / 0.0, and `narrow` of a NaN
-nan-narrows : (x : Float) → x ≡ nan → div binary32 (of_bits binary32 0) (of_bits binary32 0) ≡ narrow x
-unfolding narrow div of_bits
-nan-narrows x e = sym (ap narrow e)
 
 -- the bits of `clause` are those of `narrow`
 result : (x : Float) (r : ℕ) → T (fits binary64 x) → r ≡ to_bits binary32 (clause (of_bits binary64 (to_bits binary64 x))) → of_bits binary32 r ≡ narrow x
@@ -23,22 +17,21 @@ result x r f e =
     ap (of_bits binary32) (e ∙ ap (λ (v : Float). to_bits binary32 (clause v)) (of_bits-to_bits binary64 x f) ∙ ap (to_bits binary32) (clause-narrow x f))
     ∙ of_bits-to_bits binary32 (narrow x) (narrow-fits x)
 
-pub returns-then-x : goal.returns-then-x
-returns-then-x c = nan-narrows c.args.x (differs_from_itself c.args.x (subst T (sym c.if-x.true) tt))
-
-pub float_to_bits-x : goal.float_to_bits-x
-float_to_bits-x c = real c.args.x c.if-x.false
+pub returns-then-is_nan : goal.returns-then-is_nan
+unfolding narrow
+returns-then-is_nan c = nan-bits ∙ sym (ap narrow (nan-is c.args.x c.if-is_nan.ensures.value))
 
 pub narrow_bits-requires : goal.narrow_bits-requires
 narrow_bits-requires c =
-    subst (λ (v : Float). T (not (is_nan v))) (sym (of_bits-to_bits binary64 c.args.x (subst T (sym c.well_formed.0.1) tt))) (real c.args.x c.if-x.false)
+    subst (λ (v : Float). T (not (is_nan v))) (sym (of_bits-to_bits binary64 c.args.x (subst T (sym c.well_formed.0.1) tt)))
+    (real c.args.x c.if-is_nan.ensures.value)
 
 pub float_from_bits-result : goal.float_from_bits-result
 float_from_bits-result c =
     let x = c.args.x in
     subst (λ (b : Bool). T (not b)) (sym (nan_bits_is binary32 c.narrow_bits.result))
     (subst (λ (v : Float). T (not (is_nan v))) (sym (result x c.narrow_bits.result (subst T (sym c.well_formed.0.1) tt) c.narrow_bits.ensures))
-    (narrow-real x (real x c.if-x.false)))
+    (narrow-real x (real x c.if-is_nan.ensures.value)))
 
 pub returns : goal.returns
 returns c = result c.args.x c.narrow_bits.result (subst T (sym c.well_formed.0.1) tt) c.narrow_bits.ensures

@@ -20,4 +20,5 @@ returns c =
     let r = c.nearest_number.result in
     let w : b < 2 ^ 64 = omega arith in
     ap (λ (z : ℕ). z + r) c.sign_bit-sign.ensures
-    ∙ bits-fin b r w (below-ones (b % 2 ^ 63) c.if-precise-ge5183643170835005440.false) (subst (λ (t : ℕ). Magnitude (b % 2 ^ 63 / 2 ^ 52) t r) (digits_are b) c.nearest_number.ensures)
+    ∙ bits-fin b r w (below-ones (b % 2 ^ 63) c.if-precise-ge5183643170835005440.false)
+    (subst (λ (t : ℕ). Magnitude (b % 2 ^ 63 / 2 ^ 52) t r) (digits_are b) c.nearest_number.ensures)

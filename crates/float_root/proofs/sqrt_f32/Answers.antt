@@ -1,15 +1,15 @@
 use mathlib.Core.Logic.{inl, inr}
-use Rattle.std.proofs.Common.{rules, true≢false}
-use mathlib.Core.Path.{◌≡◌, refl, sym, subst, ◌∙◌}
-use mathlib.Core.Bool.{true, false, not}
+use Rattle.std.proofs.Common.{rules}
+use mathlib.Core.Path.{◌≡◌, sym, subst, ◌∙◌}
+use mathlib.Core.Bool.{true, not}
 use Prim.Native.Nat.{ℕ, ◌≤◌, ◌<◌, ◌^◌}
 use native.Mathlib.Omega.{arith}
 use lib.Dec.{T}
-use lib.Ieee.{Float, nan, inf, fin, binary32, fits, is_nan, of_bits, to_bits}
+use lib.Ieee.{Float, nan, binary32, fits, is_nan, of_bits, to_bits}
 use lib.Ieee.Bits.{of_bits-to_bits, to_bits-lt}
 use Rattle.float_root.specs.Root.{sqrt_of}
 use Rattle.float_root.proofs.Classify.{self-nan, self-zero, self-minus, self-inf, real-bits, neg_bits, root_is, root-real}
-use Rattle.float_bits.proofs.Word.{zero_quotient}
+use Rattle.float_bits.proofs.Word.{nan-bits, nan-is, real}
 use Rattle.float_root.proofs.sqrt_f32.Goals as goal
 
 -- what owning an `f32` tells: the format holds it
@@ -18,15 +18,6 @@ bits x = to_bits binary32 x
 
 held : (x : Float) → true ≡ fits binary32 x → T (fits binary32 x)
 held x e = subst T e tt
-
-number : (x : Float) → false ≡ is_nan x → T (not (is_nan x))
-number x e = subst (λ b. T (not b)) e tt
-
-nan-is : (x : Float) → true ≡ is_nan x → x ≡ nan
-unfolding is_nan
-nan-is nan e = refl
-nan-is (inf s) e = absurd (true≢false e)
-nan-is (fin s m d) e = absurd (true≢false e)
 
 module _ (x : Float) (f : T (fits binary32 x)) where
   same : of_bits binary32 (bits x) ≡ x
@@ -49,7 +40,7 @@ bounded c =
     let m : bits c.args.x ≡ 2 ^ 31 → ⊥ = search rules in
     let i : bits c.args.x ≡ 0x7f80_0000 → ⊥ = search rules in
     let l : bits c.args.x < 2 ^ 31 = omega arith in
-    omega (arith, at-most-inf c.args.x (held _ (sym c.well_formed.0.1)) (number c.args.x c.if-is_nan.ensures.value) l)
+    omega (arith, at-most-inf c.args.x (held _ (sym c.well_formed.0.1)) (real c.args.x c.if-is_nan.ensures.value) l)
 
 pub root_bits-requires-clause-b_bound : goal.root_bits-requires-clause-b_bound
 root_bits-requires-clause-b_bound c = bounded c
@@ -68,9 +59,9 @@ returns-in-0 c =
 pub returns-in_default : goal.returns-in_default
 returns-in_default c =
     let w : bits c.args.x < 2 ^ 32 = to_bits-lt binary32 c.args.x (held _ (sym c.well_formed.0.1)) in
-    zero_quotient
+    nan-bits
     ∙ subst (λ (v : Float). nan ≡ sqrt_of v) (same c.args.x (held _ (sym c.well_formed.0.1)))
-    (neg_bits (bits c.args.x) c.if-b-gt2147483648.true w (read_real c.args.x (held _ (sym c.well_formed.0.1)) (number c.args.x c.if-is_nan.ensures.value)))
+    (neg_bits (bits c.args.x) c.if-b-gt2147483648.true w (read_real c.args.x (held _ (sym c.well_formed.0.1)) (real c.args.x c.if-is_nan.ensures.value)))
 
 pub returns-in_default-2 : goal.returns-in_default-2
 returns-in_default-2 c =
@@ -78,6 +69,6 @@ returns-in_default-2 c =
     let m : bits c.args.x ≡ 2 ^ 31 → ⊥ = search rules in
     let i : bits c.args.x ≡ 0x7f80_0000 → ⊥ = search rules in
     let l : bits c.args.x < 2 ^ 31 = omega arith in
-    let most = at-most-inf c.args.x (held _ (sym c.well_formed.0.1)) (number c.args.x c.if-is_nan.ensures.value) l in
+    let most = at-most-inf c.args.x (held _ (sym c.well_formed.0.1)) (real c.args.x c.if-is_nan.ensures.value) l in
     subst (λ (v : Float). of_bits binary32 c.root_bits.result ≡ sqrt_of v) (same c.args.x (held _ (sym c.well_formed.0.1)))
     (root_is (bits c.args.x) c.root_bits.result (omega arith) (omega (arith, most)) c.root_bits.ensures)
