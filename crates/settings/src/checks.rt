@@ -1,4 +1,4 @@
-// The settings that are refused: each check passes, or refuses with its own number.
+// The settings that are refused: each check passes, or refuses for its own reason.
 ghost use Rattle.std.specs.Prelude.{◌≡◌, cond, eqb};
 ghost use Rattle.settings.specs.Number.{number_of, number_in, within};
 ghost use Rattle.settings.specs.Settings.{check_end, check_downsample, check_settings};
@@ -18,7 +18,7 @@ pub fn unless(passes: bool, e: Refusal) -> Result<(), Refusal>
     if passes { Ok(()) } else { Err(e) }
 }
 
-// Whether x lies from lo to hi.
+// Whether x lies from lo to hi. By name, where one library call would do: the checks' definitions have it as a word of theirs.
 pub fn is_within(lo: u32, hi: u32, x: u32) -> bool
     ensures { result ≡ within lo hi x }
 {

@@ -1,4 +1,4 @@
-// The settings of a stream: which are refused, and what follows from them; the numbers that a call is refused with.
+// The settings of a stream: which are refused, and what follows from them; what a call is refused for.
 
 #![tactic(auto)]
 
@@ -11,7 +11,8 @@ use std::fmt;
 
 pub mod checks;
 
-// The settings of a stream; the frame is 120 * 2 ^ lm samples long.
+// The settings of a stream; the frame is 120 * 2 ^ lm samples long. Numbers, as a state's words have them: any can come, and the
+// checks refuse those that mean nothing.
 #[derive(Clone, Copy, Debug, PartialEq, Eq)]
 pub struct Settings {
     pub lm: u32,

@@ -23,7 +23,8 @@ pub fn frame_size(lm: u32) -> usize
     SHORT_BLOCK * block_factor(lm)
 }
 
-// The samples that an accepted call writes; 0 for settings that are refused.
+// The samples that an accepted call writes; 0 for settings that are refused. A number for any settings, as its definition has it:
+// who asks has had the refusal from the checks, and would take the number out of an `Option` that cannot be empty.
 pub fn needed_samples(k: Settings) -> usize
     ensures { result ≡ needed k }
 {

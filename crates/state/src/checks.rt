@@ -1,4 +1,4 @@
-// The states and buffers that are refused: each check passes, or refuses with its own number.
+// The states and buffers that are refused: each check passes, or refuses for its own reason.
 ghost use Rattle.std.specs.Prelude.{◌≡◌};
 ghost use Rattle.settings.specs.Number.{number_in};
 ghost use Rattle.state.specs.Refusal.{check_lag, refuses_state, refusal};
@@ -42,7 +42,7 @@ pub fn check_state(s: State, n: usize) -> Result<(), Refusal>
     unless(n == history::WHOLE, Refusal::BadHistory)
 }
 
-// The first number that applies to a state, its history's length and a PCM buffer's length.
+// The first refusal that applies to a state, its history's length and a PCM buffer's length.
 #[tactic(auto, using(settings::proofs::Table::exit_number), unfolding(crate::specs::Refusal::refusal, settings::specs::Number::or_else))]
 pub fn first_refusal(s: State, n: usize, p: usize) -> Result<(), Refusal>
     ensures { number_in result ≡ refusal s n p }

@@ -1,4 +1,5 @@
-// What a decoder carries from frame to frame, which states and buffers are refused, by which path a loss goes, and what a call answers.
+// What a decoder carries from frame to frame, which states and buffers are refused, by which path a loss goes, and what a call
+// answers.
 
 #![tactic(auto)]
 
@@ -11,7 +12,8 @@ ghost use Rattle.state.specs.State.{core, noisy};
 use post_filter::Filter;
 use settings::{Refusal, Settings};
 
-// All that a decoder carries but for the history, which is lent beside it. Of each array channel 0's values come first.
+// All that a decoder carries but for the history, which is lent beside it. Of each array channel 0's values come first: flat, as
+// document 01's words have them.
 #[derive(Clone, Copy)]
 pub struct State {
     pub settings: Settings,
@@ -52,13 +54,14 @@ pub struct Answer {
     pub state: State,
 }
 
-// The number of an accepted call; and what a refused one has for a kind, and for a sample count.
+// The number of an accepted call.
 const ACCEPTED: u32 = 0;
 
+// What a refused call has for a kind, and for a sample count.
 const NONE: u32 = 0;
 
-// What a call answers, as document 01's three words: number, kind and sample count. (A sample count past 32 bits, which no
-// call has, becomes the greatest of them.)
+// What a call answers, as document 01's three words, which C and a record's head have: number, kind and sample count. (A sample
+// count past 32 bits, which no call has, becomes the greatest of them.)
 pub fn report(call: &Result<Answer, Refusal>) -> [u32; 3]
     ensures words { (report_of call.now).samples ≤ 4_294_967_295 → result ≡ answer_words (report_of call.now) }
     ensures past { 4_294_967_295 < (report_of call.now).samples
