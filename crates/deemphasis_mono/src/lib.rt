@@ -18,11 +18,9 @@ fn filter_mono(v: &[f32], memory: f32, downsample: usize, pcm: &mut [f32]) -> f3
         pcm.old (length v.now / downsample)) }
 {
     let mut mem = memory;
-    // by place: value q is kept of the samples from q * downsample on
-    for q in 0..v.len() / downsample {
-        let from = q * downsample;
-        pcm[q] = pcm_value(mem, v[from]);
-        for x in &v[from..from + downsample] {
+    for (q, part) in v.chunks_exact(downsample).enumerate() {
+        pcm[q] = pcm_value(mem, part[0]);
+        for x in part {
             mem = next_memory(mem, *x);
         }
     }
