@@ -5,7 +5,7 @@
 ghost use Rattle.std.specs.Prelude.{◌≡◌, map, length, replicate};
 ghost use Rattle.buffers.specs.Buffers.{times, energy};
 
-// Every sample becomes v.
+// Every sample becomes v. No step calls it since the library's `fill` serves: what was promised stays, and stays proved.
 pub fn fill(x: &mut [f32], v: f32)
     ensures { x.new ≡ replicate (length x.old) v }
 {

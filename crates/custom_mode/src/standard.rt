@@ -1,4 +1,4 @@
-// The standard mode: numbers and tables. An accessor answers at every index; past a table's end it says what.
+// The standard mode's numbers and tables. An accessor takes every index, and says what it answers past its table's end.
 ghost use Rattle.std.specs.Prelude.{◌≡◌};
 ghost use Rattle.custom_mode.specs.Mode.{edge, mean, preemph};
 
@@ -17,6 +17,9 @@ pub const BANDS: usize = 21;
 
 // The energies of a channel: more than it has bands.
 pub const MAX_BANDS: usize = 25;
+
+// Those of both channels, in one list: band i of channel c at MAX_BANDS * c + i.
+pub const ENERGIES: usize = 2 * MAX_BANDS;
 
 // Where the last band ends.
 pub const LAST_EDGE: usize = 100;

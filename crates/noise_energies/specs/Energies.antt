@@ -1,4 +1,5 @@
--- Which energies a noise loss reads, and which drop. Both channels' energies stand in a flat list of 50, band i of channel c at 25 c + i.
+-- Which energies a noise loss reads, and which drop.
+-- Both channels' energies stand in a flat list of 50, band i of channel c at 25 c + i.
 use Rattle.std.specs.Prelude.{◌≡◌, refl, List, Bool, true, false, cond, ◌&&◌, ℕ, ◌/◌, ◌%◌, length, get_or, leb, ltb, eqb, Float}
 use Rattle.std.specs.Float.{nan, binary32}
 use Rattle.std.specs.Float.Ieee.{of_bits, sub}

@@ -7,7 +7,7 @@ ghost use Rattle.std.specs.Float.{binary32};
 ghost use Rattle.std.specs.Float.Ieee.{sub};
 ghost use Rattle.noise_energies.specs.Energies.{energy_drop, drops, lower_energies, read_energies};
 
-use custom_mode::standard::MAX_BANDS;
+use custom_mode::standard::{ENERGIES, MAX_BANDS};
 
 // From this loss count on a noise loss reads the background's energies, and nothing drops.
 const LATE: u32 = 5;
@@ -19,13 +19,14 @@ fn energy_drop(count: u32) -> f32
     if count == 0 { 1.5 } else { 0.5 }
 }
 
-// The energy at place i, lower by `by` where it drops. By place: document 01's list is flat, band i % 25 of channel i / 25.
+// The energy at place i, lower by `by` where it drops. By place: document 01's list is flat.
+// Channels, start and end apart: two functions take them, and a struct for that would be no plainer.
 #[tactic(auto, unfolding(crate::specs::Energies::drops))]
 fn dropped(energy: f32, i: usize, channels: usize, start: usize, end: usize, by: f32) -> f32
     ensures { result ≡ cond (drops channels start end i) (sub binary32 energy by) energy }
 {
     let band = i % MAX_BANDS;
-    if i / MAX_BANDS < channels && start <= band && band < end {
+    if i / MAX_BANDS < channels && (start..end).contains(&band) {
         energy - by
     } else {
         energy
@@ -34,12 +35,12 @@ fn dropped(energy: f32, i: usize, channels: usize, start: usize, end: usize, by:
 
 // The coarse energies of both channels after a noise loss.
 pub fn lower_energies(
-    coarse: [f32; 50],
+    coarse: [f32; ENERGIES],
     channels: usize,
     start: usize,
     end: usize,
     count: u32,
-) -> [f32; 50]
+) -> [f32; ENERGIES]
     ensures { result ≡ lower_energies channels start end count coarse }
 {
     if LATE <= count {
@@ -55,7 +56,11 @@ pub fn lower_energies(
 
 // The energies that a noise loss reads, the coarse ones being those after the drop.
 #[tactic(auto, unfolding(crate::specs::Energies::read_energies))]
-pub fn read_energies(lowered: [f32; 50], background: [f32; 50], count: u32) -> [f32; 50]
+pub fn read_energies(
+    lowered: [f32; ENERGIES],
+    background: [f32; ENERGIES],
+    count: u32,
+) -> [f32; ENERGIES]
     ensures { result ≡ read_energies count lowered background }
 {
     if LATE <= count { background } else { lowered }

@@ -2,12 +2,14 @@
 
 #![tactic(auto)]
 
-ghost use Rattle.std.specs.Prelude.{◌≡◌, ◌+◌, ◌++◌, length};
-ghost use Rattle.state_words.specs.Words.{state_length, head_words, float_words, state_words};
+ghost use Rattle.std.specs.Prelude.{◌≡◌, ◌<◌, ◌+◌, ◌++◌, length, get_or, to_bits};
+ghost use Rattle.std.specs.Float.{nan, binary32};
+ghost use Rattle.state_words.specs.Words.{head_words, float_words, state_words};
 
 use float_bits::words::Word;
 use state::State;
 use state_words::{COARSE, MEMORIES, WORDS};
+use std::array;
 
 // The words ahead of the energies.
 #[tactic(auto, unfolding(state_words::specs::Words::head_words))]
@@ -29,39 +31,41 @@ fn head_words(s: State) -> [u32; COARSE]
     ]
 }
 
-fn put_floats(w: &mut [u32], xs: &[f32])
-    requires { length w.old ≡ length xs.now }
-    ensures { w.new ≡ float_words xs.now }
+fn float_words<const N: usize>(xs: &[f32; N]) -> [u32; N]
+    ensures { result ≡ float_words xs.now }
 {
-    for (k, x) in xs.iter().enumerate() {
-        w[k] = x.to_word();
-    }
+    array::from_fn(
+        |k|
+            requires { k < N }
+            ensures { result ≡ to_bits binary32 (get_or xs.entry.now k nan) }
+        { xs[k].to_word() },
+    )
 }
 
-// The words of two lists, one behind the other.
-fn put_both(w: &mut [u32], x: &[f32], y: &[f32])
-    requires { length w.old ≡ length x.now + length y.now }
+// The words of two lists, one behind the other. Of a part of the state's words: no type says a length N + M.
+fn put_both<const N: usize, const M: usize>(w: &mut [u32], x: &[f32; N], y: &[f32; M])
+    requires { length w.old ≡ N + M }
     ensures { w.new ≡ float_words x.now ++ float_words y.now }
 {
-    let (first, second) = w.split_at_mut(x.len());
-    put_floats(first, x);
-    put_floats(second, y);
+    let (first, second) = w.split_at_mut(N);
+    first.copy_from_slice(&float_words(x));
+    second.copy_from_slice(&float_words(y));
 }
 
-fn put_state(w: &mut [u32], s: State)
-    requires { length w.old ≡ state_length }
+// Of a borrowed array: of a local one the check no longer knows the length once two parts have come back.
+fn put_state(w: &mut [u32; WORDS], s: State)
     ensures { w.new ≡ state_words s }
 {
     w[..COARSE].copy_from_slice(&head_words(s));
     put_both(&mut w[COARSE..MEMORIES], &s.coarse, &s.background);
-    put_both(&mut w[MEMORIES..WORDS], &s.memories, &s.predictor);
+    put_both(&mut w[MEMORIES..], &s.memories, &s.predictor);
 }
 
-// The words of a state.
+// The words of a state. No `From`: a caller's words are an array, and a type of ours around it would be no plainer.
 pub fn to_words(s: State) -> [u32; WORDS]
     ensures { result ≡ state_words s }
 {
-    let mut w = [0u32; WORDS];
+    let mut w = [0; WORDS];
     put_state(&mut w, s);
     w
 }

@@ -10,7 +10,7 @@ ghost use Rattle.words.specs.Bytes.{holds, values_bytes};
 use float_bits::words::Word;
 use reply::Refused;
 
-// The bytes of the values' words.
+// The bytes of the values' words. By place: of a zip with `iter_mut` the check knows the items alone, not what b becomes.
 fn put_values<W: Word>(b: &mut [u8], xs: &[W])
     requires { length b.old ≡ 4 * length xs.now }
     ensures { b.new ≡ values_bytes W.word_of xs.now }

@@ -1,4 +1,5 @@
-// A state as 161 words of 32 bits in memory: a caller's struct, read. `put_state_words` writes it; the record has the same words as bytes.
+// A state as 161 words of 32 bits in memory: a caller's struct, read.
+// `put_state_words` writes it; the record has the same words as bytes.
 
 #![tactic(auto)]
 
@@ -9,6 +10,7 @@ use float_bits::words::Word;
 use post_filter::Filter;
 use settings::Settings;
 use state::State;
+use std::array;
 
 // The words of a state.
 pub const WORDS: usize = 161;
@@ -51,14 +53,10 @@ fn floats_in<const N: usize>(w: &[u32; WORDS], i: usize) -> [f32; N]
     requires { i + N ≤ state_length }
     ensures { result ≡ floats_by (word_in w.now) i N }
 {
-    let mut out = [0.0; N];
-    for (k, x) in out.iter_mut().enumerate() {
-        *x = f32::from_word(w[i + k]);
-    }
-    out
+    array::from_fn(|k| f32::from_word(w[i + k]))
 }
 
-// The state of a caller's words.
+// The state of a caller's words. No `From`: they are an array, and a type of ours around it would be no plainer.
 pub fn from_words(w: &[u32; WORDS]) -> State
     ensures { result ≡ state_in w.now }
 {

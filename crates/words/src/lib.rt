@@ -19,6 +19,7 @@ pub fn word_at(b: &[u8], i: usize) -> u32
 }
 
 // The values of the words from the one numbered i on. No list has a word at the greatest number.
+// By number: past b's end a word is 0, and a zip with b's words would leave the value as it was.
 pub fn values_at<W: Word>(b: &[u8], i: usize, out: &mut [W])
     ensures { out.new ≡ values_at W.of_word b.now i (length out.old) }
 {

@@ -8,4 +8,4 @@ returns c =
     let s = c.args.s in
     let coarse : length s.coarse ≡ 50 = search rules in
     let background : length s.background ≡ 50 = search rules in
-    all-parts s c.args.w.now _ _ _ (c.copy_from_slice.ensures.after ∙ c.head_words.ensures) c.put_both.ensures c.put_both-2.ensures coarse background c.requires
+    all-parts s c.args.w.now _ _ _ (c.copy_from_slice.ensures.after ∙ c.head_words.ensures) c.put_both.ensures c.put_both-2.ensures coarse background (search rules)
