@@ -1,10 +1,11 @@
 -- The circle of a frame size, what it has at each of its places, and the circle of any other size.
 use mathlib.Core.Path.{◌≡◌, ap, ◌∙◌, sym}
 use mathlib.Core.Bool.{true, false}
-use mathlib.Core.List.{List}
+use mathlib.Core.List.{List, ◌++◌}
 use Prim.Native.Nat.{ℕ, ◌+◌, ◌*◌, ◌/◌, ◌≤◌, ◌<◌}
 use native.Mathlib.Omega.{arith}
-use lib.ListN.{get_or, drop, get_or-append}
+use lib.ListN.{get_or, length, take, drop, get_or-append}
+use lib.Seq.{length-take-le}
 use lib.Ieee.{Float, nan}
 use Rattle.loops.specs.Front.{front, tab, length-tab, get_or-tab}
 use Rattle.loops.specs.Pick.{pick_true, pick-false}
@@ -15,12 +16,16 @@ pub circle_none : (n : ℕ) → is_frame_size n ≡ false → no_cosines ≡ cir
 unfolding circle_of
 circle_none n e = sym (pick-false (is_frame_size n) _ no_cosines e)
 
-pub circle_some : (n i : ℕ) (r : List Float) → is_frame_size n ≡ true
-    → r ≡ front (tab (λ (i : ℕ). cos_at (960 / n * (2 * i + 1))) i) no_cosines i → i ≡ 4 * n → r ≡ circle_of n
-unfolding circle_of
-circle_some n i r e h q =
+-- the part of 3,840 places that a frame size's circle takes
+pub part_size : (n : ℕ) → is_frame_size n ≡ true → length (take (4 * n) no_cosines) ≡ 4 * n
+part_size n e = length-take-le (4 * n) no_cosines (omega (arith, at_most n (sized n e)))
+
+pub circle_some : (n : ℕ) (part : List Float) → is_frame_size n ≡ true
+    → part ≡ tab (λ (i : ℕ). cos_at (960 / n * (2 * i + 1))) (4 * n) → part ++ drop (4 * n) no_cosines ≡ circle_of n
+unfolding circle_of front
+circle_some n part e h =
     let f : ℕ → Float = λ (i : ℕ). cos_at (960 / n * (2 * i + 1)) in
-    h ∙ ap (λ k. front (tab f k) no_cosines k) q ∙ sym (pick_true (is_frame_size n) (front (tab f (4 * n)) no_cosines (4 * n)) no_cosines e)
+    ap (λ z. z ++ drop (4 * n) no_cosines) h ∙ sym (pick_true (is_frame_size n) (front (tab f (4 * n)) no_cosines (4 * n)) no_cosines e)
 
 pub circle_is : (n : ℕ) → is_frame_size n ≡ true → IsCircle n (circle_of n)
 unfolding circle_of front

@@ -9,9 +9,7 @@ ghost use Rattle.cosine_circle.specs.Circle.{cos_at, is_frame_size, circle_of};
 use cosine_table::{QUARTER, cosines};
 
 // The shortest frame and the longest.
-pub const FRAME_LEAST: usize = 120;
-
-pub const FRAME_MOST: usize = 960;
+pub use custom_mode::standard::{FRAME_LEAST, FRAME_MOST};
 
 // How many steps the longest frame's circle has.
 pub const STEPS: usize = 4 * FRAME_MOST;
@@ -54,9 +52,8 @@ pub fn circle(n: usize) -> [f64; STEPS]
     }
     let c = cosines();
     let s = FRAME_MOST / n;
-    // by place: the first 4 n of an array
-    for i in 0..4 * n {
-        r[i] = cos_at(&c, s * (2 * i + 1));
+    for (i, v) in r[..4 * n].iter_mut().enumerate() {
+        *v = cos_at(&c, s * (2 * i + 1));
     }
     r
 }

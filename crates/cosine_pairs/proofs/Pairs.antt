@@ -1,18 +1,18 @@
 -- The pairs of a frame size n, by quarters of n of them: r quarters and a step within the next are 1,920 r parts of the circle and those of the step.
 use mathlib.Core.Path.{◌≡◌, refl, ap, ◌∙◌, sym}
 use mathlib.Core.Bool.{true}
-use mathlib.Core.Logic.{◌⊎◌, ⊎_elim, inl, inr}
-use mathlib.Core.List.{List, ◌++◌}
+use mathlib.Core.List.{List}
 use Prim.Native.Nat.{ℕ, ◌+◌, ◌-◌, ◌*◌, ◌/◌, ◌%◌, ◌≤◌, ◌<◌}
 use native.Mathlib.Omega.{arith}
 use native.Mathlib.Nat.{mul-add, mul_assoc, mul_comm, mul_left_comm, mul-le-mul_left, mul-lt-mul_of_pos_left}
-use lib.ListN.{length, get_or, set, take}
+use lib.ListN.{length, get_or, set}
 use lib.Dec.{eqb}
 use lib.Ieee.{Float, nan, neg}
 use borrow.Author.Tests.{eq-eqb, eqb-true}
-use Rattle.loops.specs.Front.{front, tab, tab-none, tab-all}
+use Rattle.loops.specs.Front.{front, tab, tab-none, tab-more, tab-all}
+use Rattle.loops.specs.Part.{put}
 use Rattle.loops.specs.Logic.{and-true, and_both}
-use Rattle.mdct.proofs.Fronts.{rest-none, rest_more, rest_all}
+use Rattle.mdct.proofs.Fronts.{run_put}
 use Rattle.cosine_table.specs.Cosines.{cosines}
 use Rattle.cosine_circle.specs.Circle.{cos_at, is_frame_size}
 use Rattle.cosine_circle.proofs.Sizes.{Size, sized, per_least, whole}
@@ -25,34 +25,23 @@ module _ (c : List Float) (j r : ℕ) (e : c ≡ cosines) (h : 0 < j) (g : j < 1
   entry : (i k : ℕ) → i ≡ k → get_or c i nan ≡ get_or cosines k nan
   entry i k q = ap (λ z. get_or z i nan) e ∙ ap (λ z. get_or cosines z nan) q
 
-  pub corner_first : (r ≡ 0) ⊎ (r ≡ 4) → get_or c j nan ≡ cos_at ((1920 * r + j) % 7680)
+  pub corner_first : r % 4 ≡ 0 → get_or c j nan ≡ cos_at ((1920 * r + j) % 7680)
   corner_first o =
-      let q : (1920 * r + j) % 7680 ≡ j = ⊎_elim (λ k. omega arith) (λ k. omega arith) o in
+      let q : (1920 * r + j) % 7680 ≡ j = omega arith in
       entry j _ (sym q) ∙ sym (first _ (omega arith))
 
-  pub corner_second : (r ≡ 1) ⊎ (r ≡ 5) → neg (get_or c (1920 - j) nan) ≡ cos_at ((1920 * r + j) % 7680)
+  pub corner_second : r % 4 ≡ 1 → neg (get_or c (1920 - j) nan) ≡ cos_at ((1920 * r + j) % 7680)
   corner_second o =
-      let q : (1920 * r + j) % 7680 ≡ 1920 + j = ⊎_elim (λ k. omega arith) (λ k. omega arith) o in
+      let q : (1920 * r + j) % 7680 ≡ 1920 + j = omega arith in
       ap neg (entry (1920 - j) (3840 - (1920 * r + j) % 7680) (omega arith)) ∙ sym (second _ (omega arith) (omega arith))
 
-  pub corner_third : (r ≡ 2) ⊎ (r ≡ 6) → neg (get_or c j nan) ≡ cos_at ((1920 * r + j) % 7680)
+  pub corner_third : r % 4 ≡ 2 → neg (get_or c j nan) ≡ cos_at ((1920 * r + j) % 7680)
   corner_third o =
-      let q : (1920 * r + j) % 7680 ≡ 3840 + j = ⊎_elim (λ k. omega arith) (λ k. omega arith) o in
+      let q : (1920 * r + j) % 7680 ≡ 3840 + j = omega arith in
       ap neg (entry j ((1920 * r + j) % 7680 - 3840) (omega arith)) ∙ sym (third _ (omega arith) (omega arith))
 
-  pub corner_fourth : r ≤ 6 → ((r ≡ 0) ⊎ (r ≡ 4) → ⊥) → ((r ≡ 1) ⊎ (r ≡ 5) → ⊥) → ((r ≡ 2) ⊎ (r ≡ 6) → ⊥)
-      → get_or c (1920 - j) nan ≡ cos_at ((1920 * r + j) % 7680)
-  corner_fourth l a b d =
-      let least : 3 ≤ r =
-      let no0 : r ≡ 0 → ⊥ = λ k. a (inl k) in
-      let no1 : r ≡ 1 → ⊥ = λ k. b (inl k) in
-      let no2 : r ≡ 2 → ⊥ = λ k. d (inl k) in
-      omega arith in
-      let most : r ≤ 3 =
-      let no4 : r ≡ 4 → ⊥ = λ k. a (inr k) in
-      let no5 : r ≡ 5 → ⊥ = λ k. b (inr k) in
-      let no6 : r ≡ 6 → ⊥ = λ k. d (inr k) in
-      omega arith in
+  pub corner_fourth : r % 4 ≡ 3 → get_or c (1920 - j) nan ≡ cos_at ((1920 * r + j) % 7680)
+  corner_fourth o =
       let q : (1920 * r + j) % 7680 ≡ 5760 + j = omega arith in
       entry (1920 - j) (7680 - (1920 * r + j) % 7680) (omega arith) ∙ sym (fourth _ (omega arith))
 
@@ -115,22 +104,17 @@ in_step n p f h = let z = sized n f in (parts-least n p z, parts-most n p z h)
 
 -- the first p pairs of quarter r, and one pair more
 abbrev pub quarter_to : ℕ → ℕ → List Float → ℕ → List Float
-quarter_to n r was p = front (take (2 * (n * r)) was ++ tab (λ (j : ℕ). pair_at n (2 * (n * r) + j)) (2 * p)) was (2 * (n * r) + 2 * p)
+quarter_to n r was p = front (tab (λ (j : ℕ). pair_at n (2 * (n * r) + j)) (2 * p)) was (2 * p)
 
-pub quarter-none : (n r : ℕ) (was : List Float) → was ≡ quarter_to n r was 0
-quarter-none n r was = rest-none (λ (j : ℕ). pair_at n (2 * (n * r) + j)) was (2 * (n * r))
-
-pub quarter-more : (n r p : ℕ) (was b : List Float) (v w : Float) → Size n → r < 6 → p < n → length was ≡ 12 * n → b ≡ quarter_to n r was p
+pub quarter-more : (n r p : ℕ) (was b : List Float) (v w : Float) → Size n → p < n → length was ≡ 2 * n → b ≡ quarter_to n r was p
     → v ≡ cos_at ((1920 * r + 960 / n * (2 * p + 1)) % 7680) → w ≡ cos_at ((1920 * (r + 1) + 960 / n * (2 * p + 1)) % 7680)
-    → set (set b (2 * (n * r) + 2 * p) v) (2 * (n * r) + (2 * p + 1)) w ≡ quarter_to n r was (p + 1)
-quarter-more n r p was b v w z h g l e f i =
-    let a = 2 * (n * r) in
+    → set (set b (2 * p) v) (2 * p + 1) w ≡ quarter_to n r was (p + 1)
+quarter-more n r p was b v w z g l e f i =
     let at : ℕ → Float = λ (j : ℕ). pair_at n (2 * (n * r) + j) in
     let t : 2 * p + 1 + 1 ≡ 2 * (p + 1) = omega arith in
-    let k : a + 2 * p + 1 < length was = omega (arith, room n r h) in
-    rest_more at nan was _ a (2 * p + 1) (rest_more at nan was b a (2 * p) e v (pair_is n p z r v f) (omega arith))
+    tab-more at nan was _ (2 * p + 1) (tab-more at nan was b (2 * p) e v (pair_is n p z r v f) (omega arith))
     w (pair-behind n p z r w i) (omega arith)
-    ∙ ap (λ y. front (take a was ++ tab at y) was (a + y)) t
+    ∙ ap (λ y. front (tab at y) was y) t
 
 -- the pairs of the first r quarters, and a quarter more
 abbrev pub quarters_to : ℕ → List Float → ℕ → List Float
@@ -139,10 +123,10 @@ quarters_to n was r = front (tab (pair_at n) (2 * (n * r))) was (2 * (n * r))
 pub quarters_none : (n : ℕ) (was : List Float) → was ≡ quarters_to n was 0
 quarters_none n was = let q : 0 ≡ 2 * (n * 0) = omega arith in tab-none (pair_at n) was ∙ ap (λ y. front (tab (pair_at n) y) was y) q
 
-pub quarters_more : (n r : ℕ) (was b d : List Float) → b ≡ quarters_to n was r → d ≡ quarter_to n r b n → d ≡ quarters_to n was (r + 1)
-quarters_more n r was b d e f =
-    let q : 2 * (n * r) + 2 * n ≡ 2 * (n * (r + 1)) = omega (arith, mul-add n r 1) in
-    f ∙ rest_all (pair_at n) _ was b (2 * (n * r)) (2 * n) e (λ j h. refl) ∙ ap (λ y. front (tab (pair_at n) y) was y) q
+pub quarters_more : (n r k : ℕ) (was b d : List Float) → b ≡ quarters_to n was r
+    → d ≡ tab (λ (j : ℕ). pair_at n (2 * (n * r) + j)) (2 * n) → k ≡ 2 * n → put (2 * (n * r)) k d b ≡ quarters_to n was (r + 1)
+quarters_more n r k was b d e f q =
+    run_put (pair_at n) _ was b d (2 * (n * r)) (2 * n) k (2 * (n * (r + 1))) e f (λ j h. refl) q (omega (arith, mul-add n r 1))
 
 pub quarters_all : (n r : ℕ) (was b : List Float) → length was ≡ 12 * n → b ≡ quarters_to n was r → r ≡ 6 → b ≡ pairs_of n
 unfolding pairs_of
@@ -158,3 +142,7 @@ takes-frame n m e h = and_both _ _ e (eq-eqb m (12 * n) h)
 pub takes_fits : (n m : ℕ) → pairs_take n m ≡ true → (is_frame_size n ≡ true) × (m ≡ 12 * n)
 unfolding pairs_take
 takes_fits n m e = let p = and-true (is_frame_size n) (eqb m (12 * n)) e in (p.0, eqb-true m (12 * n) p.1)
+
+-- and quarter r has room in it
+pub in_room : (n m r : ℕ) → pairs_take n m ≡ true → r < 6 → (n ≤ 960) × (m ≡ 12 * n) × (2 * (n * r) + 2 * n ≤ m)
+in_room n m r e h = let p = takes_fits n m e in ((known n p.0).1, p.1, omega (arith, room n r h, p.1))

@@ -23,35 +23,33 @@ struct Table<'a> {
 }
 
 impl Table<'_> {
-    // The cosine of r quarters and j parts more of a circle of 7,680. By the quarter, which is the same for a whole loop of `quarter`:
-    // found from 1,920 r + j anew for each cosine, it makes the sums of a frame of 120 a fifth slower.
+    // The cosine of r quarters and j parts more of a circle of 7,680. By the quarter, which is the same for a whole loop of
+    // `quarter`: found from 1,920 r + j anew for each, as by `cosine_circle`, it makes the sums of a frame of 120 a fifth slower.
+    #[tactic(auto, using(crate::proofs::Pairs::corner_first, crate::proofs::Pairs::corner_second, crate::proofs::Pairs::corner_third, crate::proofs::Pairs::corner_fourth))]
     fn corner(self, j: usize, r: usize) -> f64
-        requires { (0 < j) × (j < 1920) × (r ≤ 6) }
+        requires { (0 < j) × (j < 1920) }
         ensures { result ≡ cos_at ((1920 * r + j) % 7680) }
     {
-        match r {
-            0 | 4 => self.c[j],
-            1 | 5 => -self.c[QUARTER - j],
-            2 | 6 => -self.c[j],
+        match r % 4 {
+            0 => self.c[j],
+            1 => -self.c[QUARTER - j],
+            2 => -self.c[j],
             _ => self.c[QUARTER - j],
         }
     }
 
     // The n pairs of quarter r of the circle.
     #[tactic(auto, using(crate::proofs::Pairs::in_quarter, crate::proofs::Pairs::in_step))]
-    fn quarter(self, r: usize, pairs: &mut [f64])
-        requires { (r < 6) × (length pairs.old ≡ 12 * self.n) }
-        ensures { pairs.new
-            ≡ front (take (2 * (self.entry.n * r)) pairs.old ++ tab (λ j. pair_at self.entry.n (2 * (self.entry.n * r) + j)) (2 * self.entry.n))
-            pairs.old (2 * (self.entry.n * r) + 2 * self.entry.n) }
+    fn quarter(self, r: usize, part: &mut [f64])
+        requires { (r < 6) × (length part.old ≡ 2 * self.n) }
+        ensures { part.new ≡ tab (λ j. pair_at self.entry.n (2 * (self.entry.n * r) + j)) (2 * self.entry.n) }
     {
         let s = FRAME_MOST / self.n;
-        let first = 2 * (self.n * r);
-        // by place: of places lent in chunks a proof knows the number alone
+        // By number: of pairs that `as_chunks_mut` lends a proof knows how many there are, not what they leave.
         for p in 0..self.n {
             let j = s * (2 * p + 1);
-            pairs[first + 2 * p] = self.corner(j, r);
-            pairs[first + (2 * p + 1)] = self.corner(j, r + 1);
+            part[2 * p] = self.corner(j, r);
+            part[2 * p + 1] = self.corner(j, r + 1);
         }
     }
 }
@@ -64,7 +62,9 @@ fn pairs_take(n: usize, places: usize) -> bool
     is_frame_size(n) && places == 12 * n
 }
 
-// The pairs of a circle and a half for the frame size n, in 12 n places. Any other size or number of places is refused, and they stay as they were.
+// The pairs of a circle and a half for the frame size n, in 12 n places. Any other size or number of places is refused, and they
+// stay as they were.
+#[tactic(auto, using(crate::proofs::Pairs::in_room))]
 pub fn fill_pairs(n: usize, pairs: &mut [f64]) -> Result<(), Refused>
     ensures { replied result pairs.new ≡ pairs_reply n pairs.old }
 {
@@ -73,7 +73,8 @@ pub fn fill_pairs(n: usize, pairs: &mut [f64]) -> Result<(), Refused>
     }
     let table = Table { c: &cosines(), n };
     for r in 0..6 {
-        table.quarter(r, pairs);
+        let first = 2 * (n * r);
+        table.quarter(r, &mut pairs[first..first + 2 * n]);
     }
     Ok(())
 }

@@ -1,14 +1,15 @@
--- Lists that are filled from the front, in runs.
-use mathlib.Core.Path.{◌≡◌, ap, ap₂, ◌∙◌, sym}
+-- Lists that are filled from the front, in runs, and arrays made by number.
+use mathlib.Core.Path.{◌≡◌, refl, subst, ap, ap₂, ◌∙◌, sym}
 use mathlib.Core.List.{List, [], ◌∷◌, ◌++◌, append_assoc, append-nil}
 use Prim.Native.Nat.{ℕ, zero, suc, ◌+◌, ◌<◌}
 use native.Mathlib.Omega.{arith}
-use native.Mathlib.Numerals.{add-one}
 use native.Mathlib.Nat.{add-zero, add-suc}
-use lib.ListN.{length, set, take, drop, length-append, take-append-drop, replicate, length-replicate, get_or-replicate}
-use lib.Seq.{length-take-le, take_at, drop_at, drop-drop, ext_get_or}
+use lib.ListN.{get_or, replicate, length-replicate, get_or-replicate}
+use lib.Seq.{ext_get_or}
+use denote.Param.Members.{Mut, Called}
+use Rattle.std.specs.Array.{IsFromFnResult, IsFromFnResultFrom}
 use Rattle.loops.specs.Part.{put, put_next}
-use Rattle.loops.specs.Front.{front, front-write, tab, length-tab, get_or-tab}
+use Rattle.loops.specs.Front.{front, tab, length-tab, get_or-tab}
 
 -- outputs up to t, and then a run of m more
 pub tab-run : {A : Type 0} (f g : ℕ → A) (t m : ℕ) → ((j : ℕ) → j < m → g j ≡ f (t + j)) → tab f t ++ tab g m ≡ tab f (t + m)
@@ -26,37 +27,29 @@ run_put f g xs b y t m k u e h q l a =
     ap₂ (λ n z. put t n z b) l h ∙ ap (put t m (tab g m)) e ∙ put_next t m (tab f t) (tab g m) xs (length-tab f t)
     ∙ ap (λ z. front z xs (t + m)) (tab-run f g t m q) ∙ ap (λ z. front (tab f z) xs z) a
 
--- a run of outputs that starts at t
-pub rest-none : {A : Type 0} (f : ℕ → A) (xs : List A) (t : ℕ) → xs ≡ front (take t xs ++ tab f 0) xs (t + 0)
-unfolding front tab
-rest-none f xs t =
-    sym (take-append-drop t xs) ∙ ap (λ z. take t xs ++ drop z xs) (sym (add-zero t)) ∙ ap (λ z. z ++ drop (t + 0) xs) (sym (append-nil (take t xs)))
-
-pub rest_more : {A : Type 0} (f : ℕ → A) (d : A) (xs b : List A) (t j : ℕ) → b ≡ front (take t xs ++ tab f j) xs (t + j)
-    → (v : A) → v ≡ f j → t + j < length xs → set b (t + j) v ≡ front (take t xs ++ tab f (j + 1)) xs (t + (j + 1))
-unfolding tab
-rest_more f d xs b t j e v q h =
-    let l : length (take t xs ++ tab f j) ≡ t + j =
-    omega (arith, length-append (take t xs) (tab f j), length-take-le t xs (omega arith), length-tab f j) in
-    let k : t + j + 1 ≡ t + (j + 1) = omega arith in
-    front-write d xs b (take t xs ++ tab f j) (t + j) e l v h
-    ∙ ap (λ z. front z xs (t + j + 1)) (append_assoc (take t xs) (tab f j) (v ∷ []))
-    ∙ ap (λ z. front (take t xs ++ (tab f j ++ (z ∷ []))) xs (t + j + 1)) q
-    ∙ ap (λ z. front (take t xs ++ z) xs (t + j + 1)) (sym (ap (tab f) (add-one j)))
-    ∙ ap (front (take t xs ++ tab f (j + 1)) xs) k
-
-pub rest_all : {A : Type 0} (f g : ℕ → A) (xs b : List A) (t m : ℕ) → b ≡ front (tab f t) xs t → ((j : ℕ) → j < m → g j ≡ f (t + j))
-    → front (take t b ++ tab g m) b (t + m) ≡ front (tab f (t + m)) xs (t + m)
-unfolding front
-rest_all f g xs b t m e q =
-    ap (λ z. (take t z ++ tab g m) ++ drop (t + m) z) e
-    ∙ ap (λ z. (z ++ tab g m) ++ drop (t + m) (tab f t ++ drop t xs)) (take_at (tab f t) (drop t xs) t (length-tab f t))
-    ∙ ap (λ z. (tab f t ++ tab g m) ++ z)
-    (sym (drop-drop m t (tab f t ++ drop t xs)) ∙ ap (drop m) (drop_at (tab f t) (drop t xs) t (length-tab f t)) ∙ drop-drop m t xs)
-    ∙ ap (λ z. z ++ drop (t + m) xs) (tab-run f g t m q)
-
 -- n times the same
 pub tab-const : {A : Type 0} (f : ℕ → A) (v : A) (n : ℕ) → ((i : ℕ) → i < n → f i ≡ v) → replicate n v ≡ tab f n
 tab-const f v n e =
     ext_get_or v _ _ (length-replicate n v ∙ sym (length-tab f n))
     (λ i h. let l : i < n = omega (arith, length-replicate n v) in get_or-replicate n i v v l ∙ sym (e i l) ∙ sym (get_or-tab f n i v l))
+
+-- an array made by a closure that each call leaves as it was, and that answers f at each number
+module _ {F A : Type 0} (g : Mut F (ℕ × Unit {0}) A) (f : ℕ → A) (p : F)
+    (h : (i : ℕ) (y : A) (q : F) → Called g p (i, tt) y q → (y ≡ f i) × (q ≡ p)) (ys : List A) where
+  told : (n i : ℕ) (s : F) → s ≡ p → IsFromFnResultFrom g s ys i n → (j : ℕ) (d : A) → j < n → get_or ys (i + j) d ≡ f (i + j)
+  told zero i s e t j d l = let z : ⊥ = omega arith in absurd z
+  told (suc n) i s e t zero d l =
+      let r = h i t.1 t.0 (subst (λ (x : F). Called g x (i, tt) t.1 t.0) e t.3) in
+      ap (λ k. get_or ys k d) (add-zero i) ∙ t.2.1 d ∙ r.0 ∙ ap f (sym (add-zero i))
+  told (suc n) i s e t (suc j) d l =
+      let r = h i t.1 t.0 (subst (λ (x : F). Called g x (i, tt) t.1 t.0) e t.3) in
+      let k : i + suc j ≡ i + 1 + j = omega arith in
+      ap (λ z. get_or ys z d) k ∙ told n (i + 1) t.0 r.1 t.4 j d (omega arith) ∙ ap f (sym k)
+
+  pub from_fn-tab : (n : ℕ) → IsFromFnResult g p ys n → A → ys ≡ tab f n
+  from_fn-tab n r d =
+      ext_get_or d ys (tab f n) (r.long ∙ sym (length-tab f n))
+      (λ j l.
+      let k : j < n = omega (arith, r.long) in
+      let z : 0 + j ≡ j = omega arith in
+      sym (ap (λ x. get_or ys x d) z) ∙ told n 0 p refl r.each j d k ∙ ap f z ∙ sym (get_or-tab f n j d k))

@@ -11,6 +11,7 @@ use cosine_circle::{STEPS, circle, is_frame_size};
 use float_bits::formats::f32_to_f64;
 use float_narrow::f64_to_f32;
 use reply::Refused;
+use std::array::from_fn;
 
 // i, less than two turns, in a circle of w steps.
 pub fn wrapped(i: usize, w: usize) -> usize
@@ -25,15 +26,11 @@ fn along(first: usize, by: usize, w: usize) -> [usize; 8]
     requires { (first < 8000) × (by ≤ 2) × (0 < w) }
     ensures { result ≡ tab (λ j. (first + by * j) % w) 8 }
 {
-    let mut r = [0usize; 8];
-    for (j, place) in r.iter_mut().enumerate() {
-        *place = (first + by * j) % w;
-    }
-    r
+    from_fn(|j| (first + by * j) % w)
 }
 
 // Adds an input v to eight sums, each times the cosine at its place.
-// In this loop and the two below the second list is read by number: of `iter_mut().zip(..)` a proof knows the items alone, not the list that they leave.
+// Here and in the two loops below the second list is read by number: of `iter_mut().zip(..)` a proof knows the items alone.
 fn add_terms(circle: &[f64; STEPS], v: f64, at: &[usize; 8], acc: &mut [f64; 8])
     requires by_index { (j : ℕ) → j < 8 → get_or at.now j 0 < 3840 }
     ensures { acc.new
@@ -98,6 +95,7 @@ impl Frame<'_> {
         requires { length out.old ≡ 2 * length self.x.now }
         ensures { out.new ≡ imdct (length self.entry.x.now) self.entry.x.now }
     {
+        // By number: of parts that `chunks_exact_mut` lends a proof knows how many there are, not what they leave.
         for k in 0..out.len() / 8 {
             let t = 8 * k;
             halves(&self.eight(t), &mut out[t..t + 8]);

@@ -2,7 +2,7 @@
 
 #![tactic(auto)]
 
-ghost use Rattle.std.specs.Prelude.{◌≡◌, ◌*◌, ◌%◌, ◌<◌, length, get_or};
+ghost use Rattle.std.specs.Prelude.{◌≡◌, cond, ◌+◌, ◌-◌, ◌*◌, ◌/◌, ◌%◌, ◌<◌, ltb, length, get_or};
 ghost use Rattle.std.specs.Float.{nan};
 ghost use Rattle.reply.specs.Reply.{replied, value_or};
 ghost use Rattle.mdct_mirrored.specs.Mirrored.{odd_at, even_at, mirrored_outputs, transformed, mirrored_reply};
@@ -20,35 +20,43 @@ struct Half<'a> {
     ghost even: { length sums.now % 2 ≡ 0 },
 }
 
-// Two functions for the two halves: one for both would take the place in the pair and the sign beside u.
 impl Half<'_> {
-    // Output u of the first half, odd about its middle: past it, the mirrored sum with its sign turned.
+    // The pair of sums that output u of either half is made from: past the middle, the mirrored one.
+    #[tactic(auto, using(std::proofs::lemmas::Bool::Decides::nat_tests))]
+    fn pair(self, u: usize) -> usize
+        requires { u < length self.sums.now }
+        ensures { (result ≡ cond (ltb u (length self.entry.sums.now / 2)) u (length self.entry.sums.now - 1 - u))
+            × (2 * result + 1 < length self.entry.sums.now) }
+    {
+        let n = self.sums.len();
+        if u < n / 2 { u } else { n - 1 - u }
+    }
+
+    // Output u of the first half, odd about its middle: past it, the sum with its sign turned.
+    #[tactic(auto, using(crate::proofs::Halves::odd_before, crate::proofs::Halves::odd_past), unfolding(mdct::specs::Imdct::half_of, float_sign::specs::Turned::turned))]
     fn odd_output(self, u: usize) -> f32
         requires { u < length self.sums.now }
         ensures { result ≡ odd_at (length self.entry.sums.now) self.entry.sums.now u }
     {
-        let n = self.sums.len();
-        if u < n / 2 {
-            f64_to_f32(0.5 * self.sums[2 * u])
+        let sum = self.sums[2 * self.pair(u)];
+        if u < self.sums.len() / 2 {
+            f64_to_f32(0.5 * sum)
         } else {
-            f64_to_f32(0.5 * (0.0 - self.sums[2 * (n - 1 - u)]))
+            f64_to_f32(0.5 * (0.0 - sum))
         }
     }
 
-    // Output u of the second half, even about its middle: past it, the mirrored sum.
+    // Output u of the second half, even about its middle.
+    #[tactic(auto, using(crate::proofs::Halves::even_of), unfolding(mdct::specs::Imdct::half_of))]
     fn even_output(self, u: usize) -> f32
         requires { u < length self.sums.now }
         ensures { result ≡ even_at (length self.entry.sums.now) self.entry.sums.now u }
     {
-        let n = self.sums.len();
-        if u < n / 2 {
-            f64_to_f32(0.5 * self.sums[2 * u + 1])
-        } else {
-            f64_to_f32(0.5 * self.sums[2 * (n - 1 - u) + 1])
-        }
+        f64_to_f32(0.5 * self.sums[2 * self.pair(u) + 1])
     }
 
     // Output t of 2 n.
+    #[tactic(auto, using(crate::proofs::Halves::in_first, crate::proofs::Halves::in_second))]
     fn output(self, t: usize) -> f32
         requires { t < 2 * length self.sums.now }
         ensures { result ≡ get_or (mirrored_outputs (length self.entry.sums.now) self.entry.sums.now) t nan }
@@ -72,14 +80,15 @@ impl Half<'_> {
     }
 }
 
-// Takes n inputs, n one of the four frame sizes, into 2 n outputs, as `imdct_naive_f32` does, and answers how many products it made.
-// Any other lengths are refused, and out stays as it was.
+// Takes n inputs, n one of the four frame sizes, into 2 n outputs, as `imdct_naive_f32` does, and answers how many products it
+// made. Any other lengths are refused, and out stays as it was.
 pub fn imdct_mirrored_f32(spectrum: &[f32], out: &mut [f32]) -> Result<usize, Refused>
     ensures { replied result (transformed out.new (value_or 0 result)) ≡ mirrored_reply spectrum.now out.old }
 {
     if !imdct_takes(spectrum.len(), out.len()) {
         return Err(Refused);
     }
+    // The longest frame's, cut to n: there is no heap.
     let mut room = [0.0f64; FRAME_MOST];
     let sums = &mut room[..spectrum.len()];
     let products = pair_sums(spectrum, sums)?;

@@ -10,6 +10,7 @@ ghost use Rattle.cosine_pairs.specs.Pairs.{pairs_of};
 ghost use Rattle.mdct_pairs.specs.Inputs.{inputs_of};
 
 use mdct::imdct::wrapped;
+use std::array::from_fn;
 
 // Four pairs of sums, and how many products were made for them.
 #[derive(Clone, Copy)]
@@ -19,7 +20,8 @@ pub(crate) struct Sums {
 }
 
 // Adds a pair of inputs to four pairs of sums, each times the pair of cosines at its place.
-// Not the functions of `mdct`: sums in pairs read two tables by pairs, go other steps, and are taken back into the circle once in two of them.
+// Not the functions of `mdct`: sums in pairs read two tables by pairs, go other steps, and are taken back into the circle once in
+// two of them.
 fn add_terms(pairs: &[f64], inputs: &[f64], i: usize, at: &[usize; 4], acc: &mut [f64; 8])
     requires places { (i + 2 ≤ length inputs.now) × (length pairs.now ≤ 11520) }
     requires by_index { (j : ℕ) → j < 4 → get_or at.now j 0 + 2 ≤ length pairs.now }
@@ -58,11 +60,7 @@ fn first_places(t: usize, n: usize) -> [usize; 4]
     requires { (t < 1000) × (n ≤ 960) }
     ensures { result ≡ tab (λ j. 2 * (t + j) + n) 4 }
 {
-    let mut at = [0usize; 4];
-    for (j, place) in at.iter_mut().enumerate() {
-        *place = 2 * (t + j) + n;
-    }
-    at
+    from_fn(|j| 2 * (t + j) + n)
 }
 
 // What the sums of a frame are made from: its inputs, and both tables.
@@ -77,7 +75,8 @@ pub(crate) struct Tables<'a> {
 }
 
 impl Tables<'_> {
-    // The sums of outputs t to t + 3, each beside that of the output n further on. Two inputs are taken between two looks at the circle's end.
+    // The sums of outputs t to t + 3, each beside that of the output n further on. Two inputs are taken between two looks at the
+    // circle's end.
     pub(crate) fn four(self, t: usize) -> Sums
         requires { 2 * t + 8 ≤ length self.x.now }
         ensures { (result.sums
@@ -114,6 +113,7 @@ impl Tables<'_> {
             × (result ≡ total (pair_sums (length self.entry.x.now) self.entry.x.now)) }
     {
         let mut products = 0;
+        // By number, as in `mdct`: of parts lent in eights a proof knows how many there are, not what they leave.
         for k in 0..sums.len() / 8 {
             let t = 8 * k;
             let made = self.four(4 * k);

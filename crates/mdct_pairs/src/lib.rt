@@ -62,8 +62,8 @@ fn pair_takes(inputs: usize, sums: usize) -> bool
     is_frame_size(inputs) && sums == inputs
 }
 
-// Half of the sums of n inputs, n one of the four frame sizes: of outputs t and n + t side by side, for t below n / 2. Answers how
-// many products were made. Any other lengths are refused, and sums stays as it was.
+// Half of the sums of n inputs, n one of the four frame sizes: of outputs t and n + t side by side, for t below n / 2. Answers
+// how many products were made. Any other lengths are refused, and sums stays as it was.
 pub fn pair_sums(spectrum: &[f32], sums: &mut [f64]) -> Result<usize, Refused>
     ensures { replied result (summed sums.new (value_or 0 result)) ≡ pair_reply spectrum.now sums.old }
 {

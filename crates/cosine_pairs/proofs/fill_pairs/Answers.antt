@@ -1,5 +1,6 @@
 -- A refusal that touches nothing, and the pairs of six quarters.
 use mathlib.Core.Path.{refl, ◌∙◌, sym}
+use native.Mathlib.Omega.{arith}
 use borrow.Author.Rules.{rules}
 use Rattle.reply.specs.Reply.{reply-yes, reply-no}
 use Rattle.cosine_pairs.specs.Pairs.{pairs_reply}
@@ -22,7 +23,7 @@ quarter-requires c =
     let f = takes_fits _ _ (sym c.pairs_take.ensures ∙ c.if-not-pairs_take.false) in (search rules, search rules)
 
 pub loop-r-preserved : goal.loop-r-preserved
-loop-r-preserved c = quarters_more _ _ _ _ _ c.loop-r.invariant c.quarter.ensures
+loop-r-preserved c = quarters_more _ _ _ _ _ _ c.loop-r.invariant c.quarter.ensures (omega arith)
 
 pub returns : goal.returns
 unfolding pairs_reply

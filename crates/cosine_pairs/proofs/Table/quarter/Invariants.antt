@@ -4,4 +4,4 @@ use Rattle.cosine_pairs.proofs.Pairs.{quarter_to}
 use Rattle.cosine_pairs.proofs.Table.quarter.Given as goal
 
 abbrev pub invariant-loop-p : goal.invariant-loop-p
-invariant-loop-p l = l.pairs ≡ quarter_to l.self.n l.r l.initial.pairs l.p
+invariant-loop-p l = l.part ≡ quarter_to l.self.n l.r l.initial.part l.p

@@ -1,14 +1,7 @@
--- The places before j are in place.
-use mathlib.Core.Path.{refl}
+-- The places are those that the closure answers, by number.
 use borrow.Author.Rules.{rules}
-use Rattle.loops.specs.Front.{tab-none, tab-more, tab-all}
+use Rattle.mdct.proofs.Fronts.{from_fn-tab}
 use Rattle.mdct.proofs.imdct.along.Goals as goal
 
-pub loop-j-init : goal.loop-j-init
-loop-j-init c = tab-none _ _
-
-pub loop-j-preserved : goal.loop-j-preserved
-loop-j-preserved c = tab-more _ 0 _ _ _ c.loop-j.invariant _ refl (search rules)
-
 pub returns : goal.returns
-returns c = tab-all _ 0 _ _ _ c.loop-j.invariant (search rules)
+returns c = from_fn-tab _ _ _ (λ i y q e. search rules) _ 8 c.from_fn.ensures.items 0
