@@ -11,7 +11,7 @@ use deemphasis::{has_room, next_memory, pcm_value};
 use reply::Refused;
 
 // Both channels in one loop, so that their two chains of additions run side by side. A function of its own beside that of one
-// channel: one for both would take `[&[f32]; N]`, and the check does not cover an array of slices whose length is a const parameter.
+// channel: one for both would take `[&[f32]; N]`, and an array of slices by a const parameter is not covered by the check.
 fn filter_stereo(
     v: &[f32],
     w: &[f32],
@@ -27,15 +27,16 @@ fn filter_stereo(
 {
     let mut first = left;
     let mut second = right;
-    // by place: values 2 q and 2 q + 1 are kept of the samples from q * downsample on
-    for q in 0..v.len() / downsample {
-        let from = q * downsample;
-        pcm[2 * q] = pcm_value(first, v[from]);
-        pcm[2 * q + 1] = pcm_value(second, w[from]);
-        // by place: sample j of both; the items of a zip are known by the calls that gave them, not by place
-        for j in from..from + downsample {
-            first = next_memory(first, v[j]);
-            second = next_memory(second, w[j]);
+    for (q, (part, other)) in v
+        .chunks_exact(downsample)
+        .zip(w.chunks_exact(downsample))
+        .enumerate()
+    {
+        pcm[2 * q] = pcm_value(first, part[0]);
+        pcm[2 * q + 1] = pcm_value(second, other[0]);
+        for (x, y) in part.iter().zip(other) {
+            first = next_memory(first, *x);
+            second = next_memory(second, *y);
         }
     }
     [first, second]

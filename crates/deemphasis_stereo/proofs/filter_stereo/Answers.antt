@@ -1,47 +1,181 @@
-use Rattle.std.proofs.Common.{◌≡◌, ap, ◌∙◌, refl, List, [], ◌∷◌, ℕ, ◌+◌, ◌*◌, arith}
+use Rattle.std.proofs.Common.{◌≡◌, refl, sym, ap, ap₂, ◌∙◌, [], ◌∷◌, ◌++◌, List, ℕ, ◌+◌, ◌-◌, ◌*◌, ◌/◌, ◌<◌, ◌≤◌, length, get_or, drop, arith, length-drop}
 use Rattle.std.proofs.Math.Nat.{zero-mul}
-use Rattle.std.proofs.Math.ListN.{set}
+use Rattle.std.proofs.Math.ListN.{set, length-set}
+use Rattle.std.proofs.lemmas.List.{length_push}
+use Rattle.std.proofs.lemmas.Slice.Zip.{zip_turn, zip_end}
+use Rattle.std.specs.Iterator.Adapters.{zip_first, zip_second}
+use Rattle.std.specs.Slice.Iter.{iter_rest}
 use Rattle.std.specs.Prelude.{Float}
 use Rattle.std.specs.Float.{nan}
+use mathlib.Core.Logic.{inl, inr}
 use Rattle.loops.specs.Front.{front, tab, tab-none, tab-more}
-use Rattle.deemphasis.specs.Deemphasis.{memory_to, value_at}
+use Rattle.deemphasis.specs.Deemphasis.{memory_to, next_memory, pcm_value, value_at}
 use Rattle.deemphasis.proofs.Laws.{memory_none, memory_more, value-first, value-second}
+use Rattle.deemphasis.proofs.Parts.{part-within, part-room, part-rest, part-at, part-count, part-end}
 use Rattle.deemphasis_stereo.proofs.filter_stereo.Goals as goal
 
 pub loop-q-init : goal.loop-q-init
 loop-q-init c =
-    let a = c.args in (
-      rw zero-mul (memory_none a.v.now a.left),
-      rw zero-mul (memory_none a.w.now a.right),
-      tab-none (value_at a.downsample (a.v.now ∷ a.w.now ∷ []) (a.left ∷ a.right ∷ [])) a.pcm.now,
+    let a = c.args in
+    let i = c.into_iter-q-iterator.ensures.into_iter_gives in
+    let n = c.enumerate-q-items.ensures in
+    let z : c.into_iter-q-iterator.result.count ≡ 0 = ap (λ x. x.count) i ∙ n.count in
+    let s = ap (λ x. x.iter) i ∙ n.source in
+    let x = ap (λ x. x.a) s ∙ c.zip.ensures.first in
+    let y = ap (λ x. x.b) s ∙ c.zip.ensures.second in
+    rw z (record {
+      size = (ap (λ x. x.size) x ∙ c.chunks_exact.ensures.size, ap (λ x. x.size) y ∙ c.chunks_exact-2.ensures.size);
+      rest = rw zero-mul (ap (λ x. x.rest.now) x ∙ c.chunks_exact.ensures.rest, ap (λ x. x.rest.now) y ∙ c.chunks_exact-2.ensures.rest);
+      within = omega arith;
+      first = rw zero-mul (memory_none a.v.now a.left);
+      second = rw zero-mul (memory_none a.w.now a.right);
+      pcm = tab-none (value_at a.downsample (a.v.now ∷ a.w.now ∷ []) (a.left ∷ a.right ∷ [])) a.pcm.now;
+    })
+
+-- where k values of both are kept, there is room for one more of each
+room-both : (d q k n : ℕ) (v part rest : List Float) → drop (k * d) v ≡ part ++ rest → length part ≡ d → q ≡ k → k * d ≤ length v
+    → 1 ≤ d → length v / d ≤ n / 2 → 2 * q + 1 < n
+room-both d q k n v part rest cut long e l one r = omega (arith, part-room d k v part rest cut long (n / 2) one l r, e)
+
+room-first : (c : goal.After-pcm_value) → 2 * c.in-Some.q + 1 < length c.args.pcm.now
+room-first c =
+    let s = c.in-Some.ensures.steps in
+    let h = c.loop-q.invariant in
+    let r = c.requires.1 in
+    room-both c.args.downsample c.in-Some.q c.loop-q.q-iterator.count (length c.args.pcm.now) c.args.v.now c.in-Some.part.now _
+    (sym h.rest.0 ∙ s.0.0.1.0) (s.0.0.1.1 ∙ h.size.0) s.1 h.within r.some r.enough
+
+room-second : (c : goal.After-pcm_value-in-loop-q) → 2 * c.in-Some.q + 1 < length c.args.pcm.now
+room-second c =
+    let s = c.in-Some.ensures.steps in
+    let h = c.loop-q.invariant in
+    let r = c.requires.1 in
+    room-both c.args.downsample c.in-Some.q c.loop-q.q-iterator.count (length c.args.pcm.now) c.args.v.now c.in-Some.part.now _
+    (sym h.rest.0 ∙ s.0.0.1.0) (s.0.0.1.1 ∙ h.size.0) s.1 h.within r.some r.enough
+
+pub overflow_mul-pcm : goal.overflow_mul-pcm
+overflow_mul-pcm c = omega (arith, room-first c)
+
+pub offset_bounds-pcm-q : goal.offset_bounds-pcm-q
+offset_bounds-pcm-q c = omega (arith, room-first c)
+
+pub bounds-pcm-q : goal.bounds-pcm-q
+bounds-pcm-q c = omega (arith, room-first c, c.loop-q.auto.pcm)
+
+pub overflow_mul-pcm-in-loop-q : goal.overflow_mul-pcm-in-loop-q
+overflow_mul-pcm-in-loop-q c = omega (arith, room-second c)
+
+pub overflow_add-pcm : goal.overflow_add-pcm
+overflow_add-pcm c = omega (arith, room-second c)
+
+pub offset_bounds-pcm-q-in-loop-q : goal.offset_bounds-pcm-q-in-loop-q
+offset_bounds-pcm-q-in-loop-q c = omega (arith, room-second c)
+
+pub bounds-pcm-q-in-loop-q : goal.bounds-pcm-q-in-loop-q
+bounds-pcm-q-in-loop-q c = omega (arith, room-second c, c.loop-q.auto.pcm, length-set {A = Float})
+
+pub loop-x-init : goal.loop-x-init
+loop-x-init c =
+    let a = c.args in
+    let d = a.downsample in
+    let h = c.loop-q.invariant in
+    let k = sym c.in-Some.ensures.steps.1 in
+    let n : c.in-Some.q * d ≡ c.in-Some.q * d + 0 = omega arith in (
+      h.first ∙ ap (λ k. memory_to a.v.now a.left (k * d)) k ∙ ap (memory_to a.v.now a.left) n,
+      h.second ∙ ap (λ k. memory_to a.w.now a.right (k * d)) k ∙ ap (memory_to a.w.now a.right) n,
     )
 
-pub loop-j-preserved : goal.loop-j-preserved
-loop-j-preserved c =
-    let h = c.loop-j in
-    let a = c.args in (
-      c.next_memory-first.ensures ∙ memory_more a.v.now a.left h.first h.j h.invariant.0,
-      c.next_memory-second.ensures ∙ memory_more a.w.now a.right h.second h.j h.invariant.1,
-    )
-
-pub loop-q-preserved : goal.loop-q-preserved
-loop-q-preserved c =
-    let h = c.loop-q in
+pub loop-x-preserved : goal.loop-x-preserved
+loop-x-preserved c =
     let a = c.args in
     let v = a.v.now in
     let w = a.w.now in
     let d = a.downsample in
-    let m : List Float = a.left ∷ a.right ∷ [] in
-    let f : ℕ → Float = value_at d (v ∷ w ∷ []) m in
+    let h = c.loop-q.invariant in
+    let s = c.in-Some.ensures.steps in
+    let l = c.loop-x in
+    let q = c.in-Some.q in
+    let part = c.in-Some.part.now in
+    let other = c.in-Some.other.now in
+    let cut = ap (λ k. drop (k * d) v) s.1 ∙ sym h.rest.0 ∙ s.0.0.1.0 in
+    let cut' = ap (λ k. drop (k * d) w) s.1 ∙ sym h.rest.1 ∙ s.0.1.1.0 in
+    let long = s.0.0.1.1 ∙ h.size.0 in
+    let long' = s.0.1.1.1 ∙ h.size.1 in
+    let i = c.into_iter-x-iterator.result in
+    let one : iter_rest (zip_first i) ≡ part = cc in
+    let two : iter_rest (zip_second i) ≡ other = cc in
+    let j = length l.yielded in
+    let t = zip_turn part other l.yielded i l.x-iterator c.next-in-loop-x.new.self c.next-in-loop-x.result one two l.yielded_by (c.in-Some-2.x, c.in-Some-2.y) c.in-Some-2.is c.next-in-loop-x.ensures.steps in
+    let n : q * d + j + 1 ≡ q * d + length (l.yielded ++ (c.in-Some-2.x, c.in-Some-2.y) ∷ []) = omega (arith, length_push l.yielded (c.in-Some-2.x, c.in-Some-2.y)) in
+    let below : j < d = omega (arith, t.0, long) in (
+      c.next_memory-first.ensures ∙ ap (next_memory l.first) (t.2 nan ∙ part-at d q v part _ cut long j below)
+          ∙ memory_more v a.left l.first (q * d + j) l.invariant.0 ∙ ap (memory_to v a.left) n,
+      c.next_memory-second.ensures ∙ ap (next_memory l.second) (t.3 nan ∙ part-at d q w other _ cut' long' j below)
+          ∙ memory_more w a.right l.second (q * d + j) l.invariant.1 ∙ ap (memory_to w a.right) n,
+    )
+
+pub loop-q-preserved : goal.loop-q-preserved
+loop-q-preserved c =
+    let a = c.args in
+    let v = a.v.now in
+    let w = a.w.now in
+    let d = a.downsample in
+    let h = c.loop-q.invariant in
+    let s = c.in-Some.ensures.steps in
+    let l = c.loop-x in
+    let q = c.in-Some.q in
+    let part = c.in-Some.part.now in
+    let other = c.in-Some.other.now in
+    let cut = ap (λ k. drop (k * d) v) s.1 ∙ sym h.rest.0 ∙ s.0.0.1.0 in
+    let cut' = ap (λ k. drop (k * d) w) s.1 ∙ sym h.rest.1 ∙ s.0.1.1.0 in
+    let long = s.0.0.1.1 ∙ h.size.0 in
+    let long' = s.0.1.1.1 ∙ h.size.1 in
+    let i = c.into_iter-x-iterator.result in
+    let one : iter_rest (zip_first i) ≡ part = cc in
+    let two : iter_rest (zip_second i) ≡ other = cc in
+    let t = zip_end part other l.yielded i l.x-iterator c.next-in-loop-x.new.self c.next-in-loop-x.result one two l.yielded_by c.in-None-2.is c.next-in-loop-x.ensures.steps in
+    let f : ℕ → Float = value_at d (v ∷ w ∷ []) (a.left ∷ a.right ∷ []) in
+    let z : q * d + 0 ≡ q * d = omega arith in
+    let end : q * d + length l.yielded ≡ (q + 1) * d = omega (arith, t, long, long') in
+    let n : c.next.new.self.count ≡ q + 1 = s.2 ∙ ap (λ k. k + 1) (sym s.1) in
+    let low : q * d ≤ length v = rw s.1 h.within in
+    let room = room-both d q q (length a.pcm.now) v part _ cut long refl low c.requires.1.some c.requires.1.enough in
     let x = c.pcm_value.result in
     let y = c.pcm_value-in-loop-q.result in
-    let r : x ≡ f (2 * h.q) = c.pcm_value.ensures ∙ value-first d v w m h.q h.first (h.q * d) refl h.invariant.0 in
-    let t : y ≡ f (2 * h.q + 1) = c.pcm_value-in-loop-q.ensures ∙ value-second d v w m h.q h.second (h.q * d) refl h.invariant.1 in
-    let n : c.loop-j.j ≡ (h.q + 1) * d = omega arith in
-    let k : 2 * h.q + 1 + 1 ≡ 2 * (h.q + 1) = omega arith in
-    let one : set h.pcm (2 * h.q) x ≡ front (tab f (2 * h.q + 1)) a.pcm.now (2 * h.q + 1) =
-    tab-more f nan a.pcm.now h.pcm (2 * h.q) h.invariant.2 x r (omega arith) in (
-      c.loop-j.invariant.0 ∙ ap (memory_to v a.left) n,
-      c.loop-j.invariant.1 ∙ ap (memory_to w a.right) n,
-      tab-more f nan a.pcm.now (set h.pcm (2 * h.q) x) (2 * h.q + 1) one y t (omega arith) ∙ ap (λ z. front (tab f z) a.pcm.now z) k,
+    let r : x ≡ f (2 * q) =
+    c.pcm_value.ensures ∙ ap (pcm_value c.loop-q.first) (part-at d q v part _ cut long 0 c.requires.1.some ∙ ap (λ k. get_or v k nan) z)
+    ∙ value-first d v w (a.left ∷ a.right ∷ []) q c.loop-q.first (q * d) refl (h.first ∙ ap (λ k. memory_to v a.left (k * d)) (sym s.1)) in
+    let u : y ≡ f (2 * q + 1) =
+    c.pcm_value-in-loop-q.ensures ∙ ap (pcm_value c.loop-q.second) (part-at d q w other _ cut' long' 0 c.requires.1.some ∙ ap (λ k. get_or w k nan) z)
+    ∙ value-second d v w (a.left ∷ a.right ∷ []) q c.loop-q.second (q * d) refl (h.second ∙ ap (λ k. memory_to w a.right (k * d)) (sym s.1)) in
+    let k : 2 * q + 1 + 1 ≡ 2 * (q + 1) = omega arith in
+    let first : set c.loop-q.pcm (2 * q) x ≡ front (tab f (2 * q + 1)) a.pcm.now (2 * q + 1) =
+    tab-more f nan a.pcm.now c.loop-q.pcm (2 * q) (h.pcm ∙ ap (λ k. front (tab f (2 * k)) a.pcm.now (2 * k)) (sym s.1)) x r (omega (arith, room)) in
+    rw n (record {
+      size = (s.0.0.0 ∙ h.size.0, s.0.1.0 ∙ h.size.1);
+      rest = (part-rest d q v part _ cut long, part-rest d q w other _ cut' long');
+      within = part-within d q v part _ cut long low;
+      first = l.invariant.0 ∙ ap (memory_to v a.left) end;
+      second = l.invariant.1 ∙ ap (memory_to w a.right) end;
+      pcm = tab-more f nan a.pcm.now (set c.loop-q.pcm (2 * q) x) (2 * q + 1) first y u room ∙ ap (λ z. front (tab f z) a.pcm.now z) k;
+    })
+
+pub returns : goal.returns
+returns c =
+    let a = c.args in
+    let v = a.v.now in
+    let w = a.w.now in
+    let d = a.downsample in
+    let k = c.loop-q.q-iterator.count in
+    let h = c.loop-q.invariant in
+    let r = c.requires in
+    let f : ℕ → Float = value_at d (v ∷ w ∷ []) (a.left ∷ a.right ∷ []) in
+    let less : length v - k * d < d =
+    elim c.in-None.ensures.steps.0 [
+      | inl x ↦ omega (arith, ap length h.rest.0, length-drop (k * d) v, x.1.1.0, h.size.0)
+      | inr x ↦ omega (arith, ap length h.rest.1, length-drop (k * d) w, x.1.1.0, h.size.1, r.0)
+    ] in
+    let e = part-end d k (length v) h.within less r.1.even in (
+      ap₂ (λ x y. x ∷ y ∷ []) (h.first ∙ ap (memory_to v a.left) e) (h.second ∙ ap (memory_to w a.right) e),
+      h.pcm ∙ ap (λ k. front (tab f (2 * k)) a.pcm.now (2 * k)) (part-count d k (length v) h.within less),
     )

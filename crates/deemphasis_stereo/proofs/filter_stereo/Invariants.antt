@@ -1,15 +1,23 @@
-use Rattle.std.proofs.Common.{◌≡◌, [], ◌∷◌, ◌*◌}
+use Rattle.std.proofs.Common.{◌≡◌, [], ◌∷◌, ◌+◌, ◌*◌, ◌≤◌, length, drop}
 use Rattle.loops.specs.Front.{front, tab}
 use Rattle.deemphasis.specs.Deemphasis.{memory_to, value_at}
 use Rattle.deemphasis_stereo.proofs.filter_stereo.Given as goal
 
--- after j samples of each
-abbrev pub invariant-loop-j : goal.invariant-loop-j
-invariant-loop-j l = (l.first ≡ memory_to l.v l.left l.j) × (l.second ≡ memory_to l.w l.right l.j)
+-- after as many samples of both as were yielded
+abbrev pub invariant-loop-x : goal.invariant-loop-x
+invariant-loop-x l =
+    let j = l.q * l.downsample + length l.yielded in
+    (l.first ≡ memory_to l.v l.left j) × (l.second ≡ memory_to l.w l.right j)
 
--- after q values of each
+-- after as many values of both as the parts are counted
 abbrev pub invariant-loop-q : goal.invariant-loop-q
 invariant-loop-q l =
-    (l.first ≡ memory_to l.v l.left (l.q * l.downsample))
-    × (l.second ≡ memory_to l.w l.right (l.q * l.downsample))
-    × (l.pcm ≡ front (tab (value_at l.downsample (l.v ∷ l.w ∷ []) (l.left ∷ l.right ∷ [])) (2 * l.q)) l.initial.pcm (2 * l.q))
+    let q = l.q-iterator.count in
+    record {
+      size : (l.q-iterator.iter.a.size ≡ l.downsample) × (l.q-iterator.iter.b.size ≡ l.downsample);
+      rest : (l.q-iterator.iter.a.rest.now ≡ drop (q * l.downsample) l.v) × (l.q-iterator.iter.b.rest.now ≡ drop (q * l.downsample) l.w);
+      within : q * l.downsample ≤ length l.v;
+      first : l.first ≡ memory_to l.v l.left (q * l.downsample);
+      second : l.second ≡ memory_to l.w l.right (q * l.downsample);
+      pcm : l.pcm ≡ front (tab (value_at l.downsample (l.v ∷ l.w ∷ []) (l.left ∷ l.right ∷ [])) (2 * q)) l.initial.pcm (2 * q);
+    }
