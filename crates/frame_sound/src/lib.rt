@@ -9,6 +9,7 @@ ghost use Rattle.frame_sound.specs.FrameSound.{frame_sound, sound_in, sound_take
 
 use deemphasis_mono::deemphasis_mono;
 use deemphasis_stereo::deemphasis_stereo;
+use history::SECOND_END;
 use reply::Refused;
 use settings::Settings;
 use settings::checks::settings_pass;
@@ -41,8 +42,8 @@ pub fn frame_sound(
     let end = history::SAMPLES;
     let first = &history[end - n..end];
     if k.is_stereo() {
-        let last = history::CHANNEL + end;
-        deemphasis_stereo(first, &history[last - n..last], memories, d, pcm)
+        let second = &history[SECOND_END - n..SECOND_END];
+        deemphasis_stereo(first, second, memories, d, pcm)
     } else {
         deemphasis_mono(first, memories, d, pcm)
     }

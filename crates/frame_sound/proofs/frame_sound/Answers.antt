@@ -18,13 +18,13 @@ slice_bounds-first-end c =
     let t = takes-each _ _ _ (sym c.sound_takes.ensures ∙ c.if-not-sound_takes.false) in
     search rules
 
-pub slice_bounds-deemphasis_stereo-end : goal.slice_bounds-deemphasis_stereo-end
-slice_bounds-deemphasis_stereo-end c =
+pub slice_bounds-second-end : goal.slice_bounds-second-end
+slice_bounds-second-end c =
     let t = takes-each _ _ _ (sym c.sound_takes.ensures ∙ c.if-not-sound_takes.false) in
     search rules
 
-pub overflow_sub-last : goal.overflow_sub-last
-overflow_sub-last c =
+pub overflow_sub-second : goal.overflow_sub-second
+overflow_sub-second c =
     let t = takes-each _ _ _ (sym c.sound_takes.ensures ∙ c.if-not-sound_takes.false) in
     omega (arith, high c.args.k t.0 c.args.history.now t.1 _ c.frame_size-n.ensures)
 
