@@ -28,6 +28,7 @@ fn conclude(s: State, made: Made, history: &[f32], pcm: &mut [f32]) -> Answer
     ensures { outcome_of s (Ok result) pcm.new history.now ≡ in_buffer pcm.old (finish s made history.now) }
 {
     let memories = frame_sound(s.settings, history, s.memories, pcm).unwrap();
+    // taken apart: an array field straight in a literal, as `coarse: made.coarse`, is not covered by the check
     let Made {
         kind,
         seed,
@@ -51,7 +52,7 @@ fn conclude(s: State, made: Made, history: &[f32], pcm: &mut [f32]) -> Answer
     }
 }
 
-// The end of a call. What the table refuses is answered with its number, and nothing is written.
+// The end of a call. What the table refuses is refused for its first reason, and nothing is written.
 pub fn finish(s: State, made: Made, history: &[f32], pcm: &mut [f32]) -> Result<Answer, Refusal>
     ensures { outcome_of s result pcm.new history.now
         ≡ in_buffer pcm.old (finished s made history.now (length pcm.old)) }
