@@ -23,7 +23,9 @@ pub const HEAD_BYTES: usize = REPORT_BYTES + 4 * SAMPLES_MOST;
 const CUT_SHORT: u32 = 11;
 
 // Number, kind and sample count, and then the samples; how many bytes they are. A `head` of less than 7,692 bytes and
-// more than 1,920 samples are refused, and `head` stays.
+// more than 1,920 samples are refused, and `head` stays. Number and kind are the record's own words, of 32 bits; buffer and
+// count are what C is handed.
+#[tactic(auto, using(std::proofs::lemmas::Bool::Decides::nat_tests), unfolding(reply::specs::Reply::reply_if, crate::specs::Head::head_fits))]
 pub fn write_head(head: &mut [u8], number: u32, kind: u32, pcm: &[f32]) -> Result<usize, Refused>
     ensures { replied result (headed (value_or 0 result) head.new)
         ≡ reply_if (head_fits (length pcm.now) (length pcm.now) (length head.old))
@@ -41,6 +43,7 @@ pub fn write_head(head: &mut [u8], number: u32, kind: u32, pcm: &[f32]) -> Resul
 
 // The step for what is left past the last whole record, n bytes of it: nothing for none, and else 11, 0, 0.
 // A `head` of less than 12 bytes is refused, and stays.
+#[tactic(auto, using(std::proofs::lemmas::Bool::Decides::nat_tests), unfolding(reply::specs::Reply::reply_if))]
 pub fn answer_tail(n: usize, head: &mut [u8]) -> Result<usize, Refused>
     ensures { replied result (headed (value_or 0 result) head.new)
         ≡ reply_if (leb report_length (length head.old)) (answer_tail n head.old) (headed 0 head.old) }

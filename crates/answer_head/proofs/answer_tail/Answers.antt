@@ -1,14 +1,11 @@
 -- `answer_tail` meets its contract: nothing for nothing, three words for a cut record.
-use Rattle.std.proofs.Common.{true≢false, refl, ap, sym, ◌∙◌, arith}
+use Rattle.std.proofs.Common.{true≢false, ap, sym, ◌∙◌, arith}
 use Rattle.std.proofs.lemmas.Bool.Decides.{nat_tests}
 use Rattle.std.specs.Prelude.{is_ok}
-use Rattle.reply.specs.Reply.{reply-yes, reply-no}
+use Rattle.reply.specs.Reply.{reply-yes}
 use Rattle.words.proofs.Laws.{put-held, put-taken}
 use Rattle.answer_head.proofs.Heads.{tail_none, tail-cut}
 use Rattle.answer_head.proofs.answer_tail.Goals as goal
-
-pub returns-then-head-lt-REPORT_BYTES : goal.returns-then-head-lt-REPORT_BYTES
-returns-then-head-lt-REPORT_BYTES c = reply-no _ _ _ (grind (arith, nat_tests)) refl
 
 pub returns-then-n-eq0 : goal.returns-then-n-eq0
 returns-then-n-eq0 c =

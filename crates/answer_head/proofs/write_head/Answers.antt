@@ -1,16 +1,10 @@
 -- `write_head` meets its contract: three words, and the samples behind them.
-use Rattle.std.proofs.Common.{true≢false, refl, ap, sym, ◌∙◌, length, arith}
+use Rattle.std.proofs.Common.{true≢false, ap, sym, ◌∙◌, length, arith}
 use Rattle.std.specs.Prelude.{is_ok}
-use Rattle.std.proofs.lemmas.Bool.Decides.{nat_tests}
-use Rattle.answer_head.specs.Head.{head_fits}
-use Rattle.reply.specs.Reply.{reply-yes, reply-no}
+use Rattle.reply.specs.Reply.{reply-yes}
 use Rattle.words.proofs.Laws.{put-held, put-taken}
 use Rattle.answer_head.proofs.Heads.{head-fits, head-written}
 use Rattle.answer_head.proofs.write_head.Goals as goal
-
-pub returns-then-head-lt-HEAD_BYTES : goal.returns-then-head-lt-HEAD_BYTES
-unfolding head_fits
-returns-then-head-lt-HEAD_BYTES c = reply-no _ _ _ (grind (arith, nat_tests)) refl
 
 pub returns-in_err-put_values_at : goal.returns-in_err-put_values_at
 returns-in_err-put_values_at c =
