@@ -80,7 +80,8 @@ module _ (s : Bool) (m : ℕ) (e : ℤ) (t : T (fits binary32 (fin s m e))) (b :
   fewer : m * 2 ^ j < 2 ^ 1082
   fewer = lt_of_mul-lt-mul_right (down e) (
       subst (λ z. m * 2 ^ j * down e < z) (mul_right_comm 256 (down e) (2 ^ 1074))
-      (subst (λ z. z < 256 * down e * 2 ^ 1074) (mul_assoc m (up e) (2 ^ 1074) ∙ ap (λ z. m * z) is ∙ sym (mul_assoc m (2 ^ j) (down e))) (mul-lt-mul_of_pos_right b (pow_pos 1074))))
+      (subst (λ z. z < 256 * down e * 2 ^ 1074) (mul_assoc m (up e) (2 ^ 1074) ∙ ap (λ z. m * z) is ∙ sym (mul_assoc m (2 ^ j) (down e)))
+      (mul-lt-mul_of_pos_right b (pow_pos 1074))))
 
   wide_value : HasValue (product (fin s m e)) s (256 * (m * up e)) (down e)
   unfolding mul of_bits
@@ -135,9 +136,11 @@ le-cross a d c k b D e h =
 lt-cross : (a d c k : ℕ) (b : ℕ) → 0 < b → a * d ≡ 256 * c * b → c < k * d → a < 256 * k * b
 lt-cross a d c k b B e h =
     lt_of_mul-lt-mul_right d (subst (λ z. z < 256 * k * b * d) (sym e)
-    (subst (λ z. 256 * c * b < z) (ap (λ z. z * b) (sym (mul_assoc 256 k d)) ∙ mul_right_comm (256 * k) d b) (mul-lt-mul_of_pos_right (mul-lt-mul_of_pos_left h (lit< tt)) B)))
+    (subst (λ z. 256 * c * b < z) (ap (λ z. z * b) (sym (mul_assoc 256 k d)) ∙ mul_right_comm (256 * k) d b)
+    (mul-lt-mul_of_pos_right (mul-lt-mul_of_pos_left h (lit< tt)) B)))
 
-finer : (w : Float) (s : Bool) (a d : ℕ) → 0 < d → HasValue w s (256 * a) d → ((s ≡ false → a ≤ 32 * d) × (s ≡ true → a < 150 * d)) → Fine w (floor_from s (256 * a) d)
+finer : (w : Float) (s : Bool) (a d : ℕ) → 0 < d → HasValue w s (256 * a) d → ((s ≡ false → a ≤ 32 * d) × (s ≡ true → a < 150 * d))
+    → Fine w (floor_from s (256 * a) d)
 finer nan s a d D v h = v
 finer (inf t) s a d D v h = v
 finer (fin true m e) s a d D v h = (
@@ -155,7 +158,9 @@ fine nan t h = absurd h
 fine (inf s) t h = absurd h
 fine (fin true m e) t h =
     finer (product (fin true m e)) true (m * up e) (down e) (down_pos e)
-    (wide_value true m e t (lt_of_lt_of_le h (mul-le-mul_right (down e) (lit≤ tt)))) ((λ z. let y : ◌≡◌ {A = ℕ} 0 1 = cc in let b : ⊥ = omega arith in absurd b), (λ z. h))
+    (wide_value true m e t (lt_of_lt_of_le h (mul-le-mul_right (down e) (lit≤ tt))))
+    ((λ z. let y : ◌≡◌ {A = ℕ} 0 1 = cc in let b : ⊥ = omega arith in absurd b), (λ z. h))
 fine (fin false m e) t h =
     finer (product (fin false m e)) false (m * up e) (down e) (down_pos e)
-    (wide_value false m e t (lt_of_le_of_lt h (mul-lt-mul_of_pos_right (lit< tt) (down_pos e)))) ((λ z. h), (λ z. let y : ◌≡◌ {A = ℕ} 0 1 = cc in let b : ⊥ = omega arith in absurd b))
+    (wide_value false m e t (lt_of_le_of_lt h (mul-lt-mul_of_pos_right (lit< tt) (down_pos e))))
+    ((λ z. h), (λ z. let y : ◌≡◌ {A = ℕ} 0 1 = cc in let b : ⊥ = omega arith in absurd b))

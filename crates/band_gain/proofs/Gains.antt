@@ -16,15 +16,17 @@ lowest = neg (of_bits binary32 0x4316_0000)
 abbrev highest : Float
 highest = of_bits binary32 0x4200_0000
 
-pub gain_is : (x : Float) (q : ℕ) (v k a t r : Float) → v ≡ x → k ≡ of_int binary64 (minus q 38_400) → a ≡ power (q % 256) → t ≡ fin false 1 (minus (q / 256) 150)
-    → r ≡ narrow (mul binary64 (mul binary64 a (series (mul binary64 (sub binary64 v (div binary64 k (of_bits binary64 0x4070_0000_0000_0000))) (of_bits binary64 0x3fe6_2e42_fefa_39ef)))) t)
-    → r ≡ gain_at x q
+-- the powers a and t times the series at v less k / 256
+abbrev gain_by : Float → Float → Float → Float → Float
+gain_by a t v k =
+    let over = div binary64 k (of_bits binary64 0x4070_0000_0000_0000) in
+    let y = mul binary64 (sub binary64 v over) (of_bits binary64 0x3fe6_2e42_fefa_39ef) in
+    narrow (mul binary64 (mul binary64 a (series y)) t)
+
+pub gain_is : (x : Float) (q : ℕ) (v k a t r : Float) → v ≡ x → k ≡ of_int binary64 (minus q 38_400) → a ≡ power (q % 256)
+    → t ≡ fin false 1 (minus (q / 256) 150) → r ≡ gain_by a t v k → r ≡ gain_at x q
 unfolding gain_at
-gain_is x q v k a t r ev ek ea et er =
-    let s : Float → Float → Float = λ v k. series (mul binary64 (sub binary64 v (div binary64 k (of_bits binary64 0x4070_0000_0000_0000))) (of_bits binary64 0x3fe6_2e42_fefa_39ef)) in
-    er ∙ ap (λ z. narrow (mul binary64 (mul binary64 a (s z k)) t)) ev ∙ ap (λ z. narrow (mul binary64 (mul binary64 a (s x z)) t)) ek
-    ∙ ap (λ z. narrow (mul binary64 (mul binary64 z (s x (of_int binary64 (minus q 38_400)))) t)) ea
-    ∙ ap (λ z. narrow (mul binary64 (mul binary64 (power (q % 256)) (s x (of_int binary64 (minus q 38_400)))) z)) et
+gain_is x q v k a t r ev ek ea et er = er ∙ (λ i. gain_by (ea i) (et i) (ev i) (ek i))
 
 pub gain_none : (x y : Float) → x ≡ y → le x lowest ≡ true → of_bits binary32 0 ≡ band_gain y
 unfolding band_gain
@@ -40,7 +42,8 @@ fits-min a b x e =
     let s = add binary32 a b in
     let f : T (fits binary32 s) = add-fits binary32 a b in
     let h : T (fits binary32 highest) = of_bits-fits binary32 0x4200_0000 in
-    subst (λ z. T (fits binary32 z)) (sym e) (cond-fits binary32 (is_nan s) _ _ h (cond-fits binary32 (is_nan highest) _ _ f (cond-fits binary32 (lt highest s) _ _ h f)))
+    subst (λ z. T (fits binary32 z)) (sym e) (cond-fits binary32 (is_nan s) _ _ h
+    (cond-fits binary32 (is_nan highest) _ _ f (cond-fits binary32 (lt highest s) _ _ h f)))
 
 -- of what is at most 32, all but what is at most -150
 above-lowest : (m : ℕ) (e : ℤ) → le (fin true m e) lowest ≡ false → m * up e < 150 * down e

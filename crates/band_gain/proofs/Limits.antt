@@ -1,5 +1,6 @@
 -- What the code asks of w and learns, w being 256 * x and q the steps of x.
-use Rattle.std.proofs.Common.{◌≡◌, ℕ, ◌+◌, ◌-◌, ◌*◌, ◌/◌, ◌%◌, ◌^◌, ◌<◌, ◌≤◌, Bool, true, false, cond, ◌&&◌, ◌||◌, T, eqb, ltb, ℤ, pos, sym, refl, ap, ◌∙◌}
+use Rattle.std.proofs.Common.{◌≡◌, ℕ, ◌+◌, ◌-◌, ◌*◌, ◌/◌, ◌%◌, ◌^◌, ◌<◌, ◌≤◌, Bool, true, false, cond, ◌&&◌, ◌||◌, T, eqb, ltb, ℤ, pos}
+use Rattle.std.proofs.Common.{sym, refl, ap, ◌∙◌}
 use Rattle.std.proofs.Common.{mul-le-mul_right, mul_comm, div-lt_iff_lt-mul, mul-lt-mul_of_pos_right, div-add-mod', zero-mul, mul-one, mul_right_comm, arith}
 use Rattle.std.proofs.Common.{lt→ltb, ltb-false, ltb-true, le-ltb, lt-ltb, eq-eqb, ne_eqb, eqb-true}
 use native.Mathlib.Nat.{div-le_of_le-mul, min-eq_left, zero-div, zero-mod}
@@ -122,7 +123,9 @@ floor-cut true a d D e =
 floor-cut false a d D e =
     ap (λ z. 38_400 - (a / d + cond z 0 1)) (eq-eqb (a % d) 0 (omega (arith, ltb-false (a / d * d) a e, div-add-mod' a d)))
 
-pub found_below : (b : Bool) (w : Float) (q t : ℕ) → Fine w q → le zero64 w ≡ false → t ≡ to_unsigned 64 (neg w) → lt (of_int binary64 (pos t)) (neg w) ≡ b → 38_400 - (t + cond b 1 0) ≡ q
+pub found_below : (b : Bool) (w : Float) (q t : ℕ) → Fine w q → le zero64 w ≡ false → t ≡ to_unsigned 64 (neg w)
+    → lt (of_int binary64 (pos t)) (neg w) ≡ b
+    → 38_400 - (t + cond b 1 0) ≡ q
 unfolding neg
 found_below b nan q t f h k l = absurd f
 found_below b (inf s) q t f h k l = absurd f

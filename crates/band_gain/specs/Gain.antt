@@ -25,7 +25,8 @@ series y =
     let sixth = from_bits binary64 0x3fc5_5555_5555_5555 in
     add binary64 one (mul binary64 y (add binary64 one (mul binary64 y (add binary64 half (mul binary64 y sixth)))))
 
--- The gain at x where k is q - 38,400. As 38,400 is 150 * 256, the quotient n of k by 256 is q / 256 - 150 and the remainder i is q % 256.
+-- The gain at x where k is q - 38,400.
+-- As 38,400 is 150 * 256, the quotient n of k by 256 is q / 256 - 150 and the remainder i is q % 256.
 -- A[i] * p is rounded to f64, times 2 ^ n loses nothing there, and the whole is rounded once to f32.
 unfoldable pub gain_at : Float → ℕ → Float
 gain_at x q =

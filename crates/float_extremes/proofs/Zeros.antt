@@ -29,7 +29,8 @@ same_bits s m n e d h =
     (div_same (m * up e * 2 ^ 149) (down e) (n * up d * 2 ^ 149) (down d) (down_pos e) (down_pos d)
     (mul_right_comm (m * up e) (2 ^ 149) (down d) ∙ ap (λ (z : ℕ). z * 2 ^ 149) h ∙ mul_right_comm (n * up d) (down e) (2 ^ 149)))
 
-same-value : (s : Bool) (m n : ℕ) (e d : ℤ) → T (fits binary32 (fin s m e)) → T (fits binary32 (fin s n d)) → m * up e * down d ≡ n * up d * down e → fin s m e ≡ fin s n d
+same-value : (s : Bool) (m n : ℕ) (e d : ℤ) → T (fits binary32 (fin s m e)) → T (fits binary32 (fin s n d))
+    → m * up e * down d ≡ n * up d * down e → fin s m e ≡ fin s n d
 same-value s m n e d f g h =
     sym (of_bits-to_bits binary32 (fin s m e) f) ∙ ap (of_bits binary32) (same_bits s m n e d h) ∙ of_bits-to_bits binary32 (fin s n d) g
 
@@ -68,7 +69,8 @@ some_size (suc m) n u v w z A B C D h = lt_of_lt_of_le (mul-pos (mul-pos (zero-l
 swap : (a b : ℕ) → a + b ≡ b + a
 swap a b = omega arith
 
-order-fin : (s t : Bool) (m n : ℕ) (e d : ℤ) → T (fits binary32 (fin s m e)) → T (fits binary32 (fin t n d)) → Apart (fin s m e) (fin t n d) → Order (fin s m e) (fin t n d)
+order-fin : (s t : Bool) (m n : ℕ) (e d : ℤ) → T (fits binary32 (fin s m e)) → T (fits binary32 (fin t n d))
+    → Apart (fin s m e) (fin t n d) → Order (fin s m e) (fin t n d)
 unfolding lt
 order-fin false false m n e d f g p =
     sizes (m * up e * down d) (n * up d * down e) (Order (fin false m e) (fin false n d))

@@ -1,4 +1,4 @@
-// An f64 to the nearest f32, in the order of IEEE 754-2019, clause 4.3.1 (round_ties_to_even): what stands in quotes is its words.
+// An f64 to the nearest f32, in the order of IEEE 754-2019, clause 4.3.1 (round_ties_to_even); what is quoted is its words.
 // So it is written out, in place of the library's `std::num::nearest_f64_to_f32_with_nan`.
 
 #![tactic(auto)]

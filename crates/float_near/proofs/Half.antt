@@ -1,5 +1,6 @@
--- Rounding is within half a step of its exact value; in the normal range that is a part of one in 2 ^ prec of it. Everything is in units of the
--- format's smallest value, over whole numbers: a / c is a * 2 ^ low / c units, and `grid` of them is what it is rounded to. Assumes nothing.
+-- Rounding is within half a step of its exact value; in the normal range that is a part of one in 2 ^ prec of it.
+-- Everything is in units of the format's smallest value, over whole numbers: a / c is a * 2 ^ low / c units,
+-- and `grid` of them is what it is rounded to. Assumes nothing.
 use mathlib.Core.Path.{◌≡◌, refl, sym, ap, ◌∙◌, subst}
 use mathlib.Core.Logic.{◌⊎◌, inl, inr}
 use Prim.Native.Nat.{ℕ, zero, suc, ◌+◌, ◌-◌, ◌*◌, ◌/◌, ◌%◌, ◌^◌, ◌≤◌, ◌<◌, compare}
@@ -132,7 +133,8 @@ module _ (f : Format) (a c : ℕ) (C : 0 < c) where
           let r : 2 ^ (prec f + j) * c ≤ n = (le-div_iff_mul-le C).0 (size_reaches (n / c) (prec f + j) (omega arith)) in
           absurd (lt_irrefl n
           (lt_of_le_of_lt h
-          (lt_of_lt_of_le (mul-lt-mul_of_pos_right (mul-lt-mul_of_pos_right Q (pow_pos j)) C) (le_trans (le_of_eq (ap (λ (z : ℕ). z * c) (sym (pow-add 2 (prec f) j)))) r))))
+          (lt_of_lt_of_le (mul-lt-mul_of_pos_right (mul-lt-mul_of_pos_right Q (pow_pos j)) C)
+          (le_trans (le_of_eq (ap (λ (z : ℕ). z * c) (sym (pow-add 2 (prec f) j)))) r))))
       go (inr l) =
           let w = q * 2 ^ (j - drop (prec f) n c) in
           let e = whole-steps q j l in

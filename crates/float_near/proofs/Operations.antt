@@ -1,5 +1,5 @@
--- Each float operation rounds once: of operands that are a / c and b / d it gives the exact result's fraction, rounded. (The root's bound is `sqrt-within`, in
--- float_root.) Assumes nothing.
+-- Each float operation rounds once: of operands that are a / c and b / d it gives the exact result's fraction, rounded.
+-- The root's bound is `sqrt-within`, in float_root. Assumes nothing.
 use mathlib.Core.Path.{◌≡◌, sym, ap, ◌∙◌, subst}
 use Prim.Native.Nat.{ℕ, zero, suc, ◌+◌, ◌-◌, ◌*◌, ◌^◌, ◌≤◌, ◌<◌}
 use native.Mathlib.Nat.{le_trans, le_of_eq, lt_of_le_of_lt, one-mul, mul-pos, mul-mul-mul_comm, mul-le-mul_right, lt_irrefl}
@@ -20,7 +20,8 @@ use Rattle.float_near.proofs.Half.{grid-near, holds-above}
 -- ---- what is rounded without overflow has `grid` for its units, whatever its sign
 pub round-grid : (f : Format) (s : Bool) (a c : ℕ) → grid f a c < overflow f → HasValue (round f s a c) s (grid f a c) (2 ^ low f)
 round-grid f s a c h =
-    subst (λ (x : Float). HasValue x s (grid f a c) (2 ^ low f)) (sym (round_is f s a c)) (units_val f s (kept (prec f) (a * 2 ^ low f) c) (drop (prec f) (a * 2 ^ low f) c) h)
+    subst (λ (x : Float). HasValue x s (grid f a c) (2 ^ low f)) (sym (round_is f s a c))
+    (units_val f s (kept (prec f) (a * 2 ^ low f) c) (drop (prec f) (a * 2 ^ low f) c) h)
 
 -- a fraction from 2 ^ (prec - 1) units to 2 ^ emax
 pub round-near : (f : Format) (s : Bool) (a c : ℕ) → 0 < c → 2 ^ (prec f - 1) * c ≤ a * 2 ^ low f → a ≤ 2 ^ emax f * c → Rounded f (round f s a c) s a c
@@ -66,7 +67,8 @@ module _ (f : Format) (x y : Float) (s t : Bool) (a c b d : ℕ) (C : 0 < c) (D 
           ap (λ (z : Bool). round f (unlike z v) (m * up e * (n * up g)) (down e * down g)) h.0
           ∙ ap (λ (z : Bool). round f (unlike s z) (m * up e * (n * up g)) (down e * down g)) k.0
           ∙ round_same f (unlike s t) (m * up e * (n * up g)) (down e * down g) (a * b) (c * d) (mul-pos (down_pos e) (down_pos g)) (mul-pos C D)
-          (mul-mul-mul_comm (m * up e) (n * up g) c d ∙ ap (λ (z : ℕ). z * (n * up g * d)) h.1 ∙ ap (λ (z : ℕ). a * down e * z) k.1 ∙ mul-mul-mul_comm a (down e) b (down g))
+          (mul-mul-mul_comm (m * up e) (n * up g) c d ∙ ap (λ (z : ℕ). z * (n * up g * d)) h.1
+          ∙ ap (λ (z : ℕ). a * down e * z) k.1 ∙ mul-mul-mul_comm a (down e) b (down g))
 
   pub div-at : 0 < b → HasValue x s a c → HasValue y t b d → div f x y ≡ round f (unlike s t) (a * d) (b * c)
   unfolding div
@@ -93,7 +95,8 @@ module _ (f : Format) (x y : Float) (s t : Bool) (a c b d : ℕ) (C : 0 < c) (D 
           cross p q r w i j = omega (arith, ap (λ (z : ℕ). z * (b * w)) i, ap (λ (z : ℕ). a * q * z) j)
 
 -- the sum of two that are not negative
-pub add_at : (f : Format) (x y : Float) (a c b d : ℕ) → 0 < c → 0 < d → HasValue x false a c → HasValue y false b d → add f x y ≡ round f false (a * d + b * c) (c * d)
+pub add_at : (f : Format) (x y : Float) (a c b d : ℕ) → 0 < c → 0 < d → HasValue x false a c → HasValue y false b d
+    → add f x y ≡ round f false (a * d + b * c) (c * d)
 unfolding add
 add_at f nan y a c b d C D h k = absurd h
 add_at f (inf s) y a c b d C D h k = absurd h

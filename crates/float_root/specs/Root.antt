@@ -14,8 +14,9 @@ unfoldable pub twice_root : ℕ → ℕ
 twice_root n = let r = root_to 213 n in 2 * r + cond (eqb (r * r) n) 0 1
 
 -- NaN, +infinity and zeros give themselves, and what is below zero gives NaN.
--- Else x is n units of 2 ^ -298, so √x is √n units of 2 ^ -149. No root is below 2 ^ -75, so each f32 near it, and each
--- middle of two, is a whole number of these units. Of a fraction in √n it only counts that there is one: half a unit stands for it.
+-- Else x is n units of 2 ^ -298, so √x is √n units of 2 ^ -149.
+-- No root is below 2 ^ -75, so each f32 near it, and each middle of two, is a whole number of these units.
+-- Of a fraction in √n it only counts that there is one: half a unit stands for it.
 unfoldable pub sqrt_of : Float → Float
 sqrt_of nan = nan
 sqrt_of (inf true) = nan

@@ -1,10 +1,12 @@
 -- Sums where a zero's sign does not count: `plus_zero` writes both zeros as +0.
--- A sum of values of one format is a whole number of its smallest values, so it does not vanish in rounding, and -0 comes of -0 + -0 alone.
+-- A sum of values of one format is a whole number of its smallest values, so it does not vanish in rounding,
+-- and -0 comes of -0 + -0 alone.
 use mathlib.Core.Path.{◌≡◌, refl, sym, ap, ◌∙◌, subst}
 use mathlib.Core.Bool.{Bool, true, false, not, ◌&&◌, beq, cond}
 use Prim.Native.Nat.{ℕ, zero, suc, ◌+◌, ◌-◌, ◌*◌, ◌/◌, ◌%◌, ◌^◌, ◌≤◌, ◌<◌, compare}
 use native.Mathlib.Nat.{le_trans, le_of_eq, le_of_lt, lt_of_lt_of_le, lt_irrefl, zero-lt-suc, zero-mul, one-mul, mul_assoc, mul_comm, mul-pos}
-use native.Mathlib.Nat.{mul-le-mul, mul-le-mul_right, lt_of_mul-lt-mul_right, suc-mul, sub-add_cancel, sub-zero, sub-eq-zero_of_le, zero-sub, zero-add, le-div_iff_mul-le, div-div-eq-div-mul}
+use native.Mathlib.Nat.{mul-le-mul, mul-le-mul_right, lt_of_mul-lt-mul_right, suc-mul, sub-add_cancel, sub-zero, sub-eq-zero_of_le}
+use native.Mathlib.Nat.{zero-sub, zero-add, le-div_iff_mul-le, div-div-eq-div-mul}
 use native.Mathlib.Omega.{arith}
 use lib.IntN.{ℤ, pos, negsuc}
 use lib.Dec.{T, leb, ltb, ltb→lt, nltb→le, leb→le, nleb→lt}
@@ -139,7 +141,8 @@ gap x y e d l =
 
 -- ---- a sum is -0 only where both are
 
-sum-plus : (f : Format) (s : Bool) (a : ℕ) (t : Bool) (b c : ℕ) → 0 < c → (T s → c ≤ a * 2 ^ low f) → (a < b → c ≤ (b - a) * 2 ^ low f) → (b < a → c ≤ (a - b) * 2 ^ low f)
+sum-plus : (f : Format) (s : Bool) (a : ℕ) (t : Bool) (b c : ℕ) → 0 < c
+    → (T s → c ≤ a * 2 ^ low f) → (a < b → c ≤ (b - a) * 2 ^ low f) → (b < a → c ≤ (a - b) * 2 ^ low f)
     → plus_zero (sum f s a t b c) ≡ sum f s a t b c
 unfolding sum
 sum-plus f s a t b c C A L G = go s t A
@@ -210,7 +213,8 @@ sum-none f s t b c C = go s t
         ∙ plus_zero-zero s (pos 0)
         ∙ sym (ap (λ (x : ℕ). plus_zero (round f t x c)) z ∙ ap plus_zero (round-zero f t c C) ∙ plus_zero-zero t (pos 0))
 
-    unlike-signs : (s t p : Bool) → (T (not p) → b ≤ 0) → plus_zero (cond p (round f t (b - 0) c) (round f (s && ltb b 0) (0 - b) c)) ≡ plus_zero (round f t b c)
+    unlike-signs : (s t p : Bool) → (T (not p) → b ≤ 0)
+        → plus_zero (cond p (round f t (b - 0) c) (round f (s && ltb b 0) (0 - b) c)) ≡ plus_zero (round f t b c)
     unlike-signs s t true h = ap (λ (x : ℕ). plus_zero (round f t x c)) (sub-zero b)
     unlike-signs s t false h = none (s && ltb b 0) t (le-zero (h tt))
 
@@ -265,7 +269,8 @@ sum-not f s a t b c C = go s t
         ap plus_zero r ∙ plus_zero-zero false (pos 0) ∙ sym (ap (λ (x : Float). plus_zero (neg x)) r ∙ plus_zero-neg-zero false (pos 0))
 
     unlike-signs : (s t p q : Bool) → (T (not q) → a ≤ b)
-        → plus_zero (cond p (round f (not t) (b - a) c) (round f (not s && q) (a - b) c)) ≡ plus_zero (neg (cond p (round f t (b - a) c) (round f (s && q) (a - b) c)))
+        → plus_zero (cond p (round f (not t) (b - a) c) (round f (not s && q) (a - b) c))
+        ≡ plus_zero (neg (cond p (round f t (b - a) c) (round f (s && q) (a - b) c)))
     unlike-signs s t true q h = same t (b - a)
     unlike-signs true t false true h = same true (a - b)
     unlike-signs false t false true h = same false (a - b)

@@ -3,7 +3,8 @@ use mathlib.Core.Path.{◌≡◌, refl, sym, ap, ◌∙◌, subst}
 use mathlib.Core.Bool.{Bool, true, false, not, ◌&&◌, cond}
 use Prim.Native.Nat.{ℕ, zero, suc, ◌+◌, ◌-◌, ◌*◌, ◌/◌, ◌%◌, ◌^◌, ◌≤◌, ◌<◌}
 use native.Mathlib.Nat.{le_trans, le_of_eq, le_of_suc-le-suc, lt_of_lt_of_le, lt_of_not-le, lt_irrefl, zero-mul, one-mul}
-use native.Mathlib.Nat.{mul-one, mul_assoc, mul_comm, mul_right_comm, mul-pos, mul-le-mul_right, mul-lt-mul_of_pos_right, lt_of_mul-lt-mul_right, sub-add_cancel}
+use native.Mathlib.Nat.{mul-one, mul_assoc, mul_comm, mul_right_comm, mul-pos, mul-le-mul_right, mul-lt-mul_of_pos_right}
+use native.Mathlib.Nat.{lt_of_mul-lt-mul_right, sub-add_cancel}
 use lib.IntN.{ℤ, pos, negsuc}
 use lib.Dec.{T, leb, ltb, eqb, ltb→lt, leb→le, eqb→eq}
 use lib.Pow.{pow-add, pow_pos, pow-lt}
@@ -103,13 +104,15 @@ round-own f s m e t =
     let w : m * 2 ^ j.0 * down e < 2 ^ (low f + suc (emax f)) * down e =
     subst (λ (x : ℕ). x < 2 ^ (low f + suc (emax f)) * down e) u
     (lt_of_lt_of_le (mul-lt-mul_of_pos_right p.small (pow_pos (low f)))
-    (le_of_eq (mul_right_comm (2 ^ suc (emax f)) (down e) (2 ^ low f) ∙ ap (λ (x : ℕ). x * down e) (mul_comm (2 ^ suc (emax f)) (2 ^ low f) ∙ sym (pow-add 2 (low f) (suc (emax f))))))) in
+    (le_of_eq (mul_right_comm (2 ^ suc (emax f)) (down e) (2 ^ low f)
+    ∙ ap (λ (x : ℕ). x * down e) (mul_comm (2 ^ suc (emax f)) (2 ^ low f) ∙ sym (pow-add 2 (low f) (suc (emax f))))))) in
     same-value f (round f s (m * up e) (down e)) (fin s m e) s (m * up e) (down e) (down_pos e) (round-fits f s (m * up e) (down e)) t
     (round_exact f s (m * up e) (down e) m j.0 (down_pos e) p.few (lt_of_mul-lt-mul_right (down e) w) u)
     (refl, refl)
 
 -- the same, for the fraction a / c that it is
-pub round-value : (f : Format) (s : Bool) (m : ℕ) (e : ℤ) (a c : ℕ) → 0 < c → T (fits f (fin s m e)) → a * down e ≡ m * up e * c → round f s a c ≡ fin s m e
+pub round-value : (f : Format) (s : Bool) (m : ℕ) (e : ℤ) (a c : ℕ) → 0 < c → T (fits f (fin s m e))
+    → a * down e ≡ m * up e * c → round f s a c ≡ fin s m e
 round-value f s m e a c C t h = round_same f s a c (m * up e) (down e) C (down_pos e) h ∙ round-own f s m e t
 
 -- nothing is a zero of the sign

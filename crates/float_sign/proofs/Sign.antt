@@ -1,4 +1,5 @@
--- Turning a float's sign: through a product and the step to f32 as it is, and through a sum that starts at +0 but for a zero, which stays +0.
+-- Turning a float's sign: through a product and the step to f32 as it is, and through a sum that starts at +0
+-- but for a zero, which stays +0.
 use mathlib.Core.Path.{◌≡◌, refl, sym, ap, ◌∙◌, subst}
 use mathlib.Core.Bool.{Bool, true, false, not, cond}
 use Prim.Native.Nat.{ℕ, zero, suc, ◌*◌, ◌<◌}
@@ -13,7 +14,8 @@ use Rattle.loops.specs.Sum.{sum_to}
 use Rattle.float_narrow.specs.Narrow.{narrow}
 use Rattle.float_sign.specs.Turned.{turned}
 use Rattle.float_sign.proofs.Rounding.{round-not}
-use Rattle.float_sign.proofs.PlusZero.{plus_zero, plus_zero-zero, plus_zero-neg-zero, plus_zero-twice, plus_zero-fits, plus_zero-add, add-plus, add-to-zero, add-neg}
+use Rattle.float_sign.proofs.PlusZero.{plus_zero, plus_zero-zero, plus_zero-neg-zero, plus_zero-twice, plus_zero-fits, plus_zero-add}
+use Rattle.float_sign.proofs.PlusZero.{add-plus, add-to-zero, add-neg}
 
 -- ---- products
 
@@ -117,7 +119,8 @@ turned-other x h n = turned-is x h ∙ plus_zero-other x (sym (ap (eq x) zero64)
 pub turned-add : (s x : Float) → T (fits binary64 s) → T (fits binary64 x) → add binary64 (turned s) (neg x) ≡ turned (add binary64 s x)
 turned-add s x S X =
     ap (λ (z : Float). add binary64 z (neg x)) (turned-is s S)
-    ∙ sym (add-plus binary64 (plus_zero (neg s)) (neg x) (plus_zero-fits binary64 (neg s) (neg-fits binary64 s S)) (neg-fits binary64 x X) (plus_zero-twice (neg s)))
+    ∙ sym (add-plus binary64 (plus_zero (neg s)) (neg x)
+    (plus_zero-fits binary64 (neg s) (neg-fits binary64 s S)) (neg-fits binary64 x X) (plus_zero-twice (neg s)))
     ∙ plus_zero-add binary64 (neg s) (neg x)
     ∙ add-neg binary64 s x
     ∙ sym (turned-is (add binary64 s x) (add-fits binary64 s x))
@@ -131,7 +134,8 @@ sum_fits t zero = subst (λ (z : Float). T (fits binary64 z)) (sym zero64) (zero
 sum_fits t (suc n) = add-fits binary64 _ (t n)
 
 -- it is never -0: +0 and +0 give +0, and what is not zero does not vanish
-pub sum-plus-zero : (t : ℕ → Float) (n : ℕ) → ((k : ℕ) → T (fits binary64 (t k))) → plus_zero (sum_to binary64 t (of_bits binary64 0) n) ≡ sum_to binary64 t (of_bits binary64 0) n
+pub sum-plus-zero : (t : ℕ → Float) (n : ℕ) → ((k : ℕ) → T (fits binary64 (t k)))
+    → plus_zero (sum_to binary64 t (of_bits binary64 0) n) ≡ sum_to binary64 t (of_bits binary64 0) n
 unfolding sum_to fold_to
 sum-plus-zero t zero h = ap plus_zero zero64 ∙ plus_zero-zero false (pos 0) ∙ sym zero64
 sum-plus-zero t (suc n) h = add-plus binary64 _ (t n) (sum_fits t n) (h n) (sum-plus-zero t n h)

@@ -1,4 +1,5 @@
--- The factor that brings a band to unit energy, in units of 2 ^ -149: how near to 1 over the root of its squares' sum. Assumes nothing.
+-- The factor that brings a band to unit energy, in units of 2 ^ -149: how near to 1 over the root of its squares' sum.
+-- Assumes nothing.
 use mathlib.Core.Path.{◌≡◌, refl, sym, ap, ◌∙◌, subst}
 use mathlib.Core.Bool.{Bool, false}
 use mathlib.Core.Logic.{inl, inr}
@@ -91,7 +92,9 @@ twice-at-most E h = go (size E) (size_reaches E)
     go (suc z) r = le_trans (le_of_eq (pow-succ' 2 z)) (mul-le-mul_left 2 (r z (omega arith)))
 
 sum-high : (E : ℕ) (x : Float) → 1 ≤ E → (s : Summed x E) → 2 ^ 47 * s.w ≤ (2 ^ 47 + 1) * (E * one64)
-sum-high E x h s = part E s.w (2 ^ size E) (2 ^ 1026) one64 refl (twice-at-most E h) (le_trans s.high (le_of_eq (ap (λ (z : ℕ). E * one64 + z) (pow-add 2 (size E) 1026))))
+sum-high E x h s =
+    part E s.w (2 ^ size E) (2 ^ 1026) one64 refl (twice-at-most E h)
+    (le_trans s.high (le_of_eq (ap (λ (z : ℕ). E * one64 + z) (pow-add 2 (size E) 1026))))
   where
     part : (E w z k l : ℕ) → l ≡ 2 ^ 48 * k → z ≤ 2 * E → w ≤ E * l + z * k → 2 ^ 47 * w ≤ (2 ^ 47 + 1) * (E * l)
     part E w z k l e h g = omega (arith, ap (λ (v : ℕ). E * v) e, mul-le-mul_right k h)
@@ -117,7 +120,8 @@ finish E y e h r x =
     let under : R ≤ 2 ^ 17 * c = root-under c E r.a R e x root h in
     let some : 0 < R = positive-root R c p over in
     let q : Rounded binary32 (div binary32 one32 (sqrt_of y)) false (1 * c) (R * 1) =
-    subst (λ (u : Float). Rounded binary32 u false (1 * c) (R * 1)) (sym (div-at binary32 one32 (sqrt_of y) false false 1 1 R c (lit< tt) p some one-is r.root_is))
+    subst (λ (u : Float). Rounded binary32 u false (1 * c) (R * 1))
+    (sym (div-at binary32 one32 (sqrt_of y) false false 1 1 R c (lit< tt) p some one-is r.root_is))
     (round-near binary32 false (1 * c) (R * 1) (mul-pos some (lit< tt)) (normal R under) (in-range R over)) in
     let n : Near (2 ^ 24) (q.units * R) (c * c) = subst (λ (z : ℕ). Near (2 ^ 24) (q.units * z) (c * c)) (mul-one R) q.near in
     record {
@@ -150,13 +154,16 @@ factor-near E x e h s =
     subst (λ (u : Float). Rounded binary32 u false w one64) (sym (narrow_at x false w one64 L s.is))
     (round-near binary32 false w one64 L (normal E w one64 e s.low) (in-range E w one64 h top)) in
     let near = narrowed E w n.units one64 one149 L s.low top n.near in
-    let fit : T (fits binary32 (narrow x)) = subst (λ (u : Float). T (fits binary32 u)) (sym (narrow_at x false w one64 L s.is)) (round-fits binary32 false w one64) in
+    let fit : T (fits binary32 (narrow x)) =
+    subst (λ (u : Float). T (fits binary32 u)) (sym (narrow_at x false w one64 L s.is)) (round-fits binary32 false w one64) in
     let r = sqrt-within (narrow x) fit (positive_of_value (narrow x) n.units one149 n.is (some E n.units one149 e (pow_pos 149) near)) in
     let same : n.units ≡ r.a = one_value (narrow x) false n.units r.a one149 n.is r.x-is in
     finish E (narrow x) e h r (subst (Narrowed one149 E) same near)
   where
     normal : (E w l : ℕ) → 1 ≤ E → E * l ≤ w → 2 ^ 23 * l ≤ w * 2 ^ 149
-    normal E w l e g = le_trans (mul-le-mul (lit≤ tt) (le_trans (le_of_eq (sym (one-mul l))) (le_trans (mul-le-mul_right l e) g))) (le_of_eq (mul_comm (2 ^ 149) w))
+    normal E w l e g =
+        le_trans (mul-le-mul (lit≤ tt) (le_trans (le_of_eq (sym (one-mul l))) (le_trans (mul-le-mul_right l e) g)))
+        (le_of_eq (mul_comm (2 ^ 149) w))
 
     in-range : (E w l : ℕ) → E ≤ 2 ^ 30 → 2 ^ 47 * w ≤ (2 ^ 47 + 1) * (E * l) → w ≤ 2 ^ 127 * l
     in-range E w l h g =

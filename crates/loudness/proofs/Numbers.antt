@@ -1,7 +1,7 @@
 -- From the single steps' bounds to the sum's, over whole numbers alone. With c for 1, a band has
--- E, the sum of its values' squares; X / c, near E; R / c, near the root of X / c; G / c, near c / R; and T, the sum of squares of samples near v * G.
--- Of D a rounding may add or take 1: M is one less and P one more. Of the root's square it is H, and H' one more or one less; of the f64 sum B, and B' one more.
--- Assumes nothing.
+-- E, the sum of its values' squares; X / c, near E; R / c, near the root of X / c; G / c, near c / R;
+-- and T, the sum of squares of samples near v * G. Of D a rounding may add or take 1: M is one less and P one more.
+-- Of the root's square it is H, and H' one more or one less; of the f64 sum B, and B' one more. Assumes nothing.
 use Prim.Native.Nat.{ℕ, ◌+◌, ◌-◌, ◌*◌, ◌^◌, ◌≤◌, ◌<◌}
 use native.Mathlib.Nat.{mul-pos, mul-le-mul, mul-le-mul_left, mul-le-mul_right, le_of_mul-le-mul_right}
 use native.Mathlib.Omega.{arith}
@@ -42,7 +42,8 @@ within w T U K L K' L' k k' above tops below bottoms = record {
   high = le_of_mul-le-mul_right {k = K} (omega (arith, mul-le-mul_right U tops, mul-le-mul_left w above)) k;
 }
 
--- ---- with the roundings' own numbers: 2 ^ -24 each for the step to f32, the quotient and the products, 2 ^ -23 for the root's square, 2 ^ -47 for the f64 sum
+-- ---- with the roundings' own numbers: 2 ^ -24 each for the step to f32, the quotient and the products,
+-- 2 ^ -23 for the root's square, 2 ^ -47 for the f64 sum
 -- the most and the least that T is of 1, as fractions
 abbrev most-num : ℕ
 most-num = 2 ^ 24 * (2 ^ 23 + 1) * ((2 ^ 24 + 1) * (2 ^ 24 + 1) * (2 ^ 24 + 1) * (2 ^ 24 + 1))

@@ -47,7 +47,8 @@ cancel c y b p n = record {
   high = le_of_mul-le-mul_right {k = c} (omega (arith, n.high)) p;
 }
 
-module _ (v g : Float) (s : Bool) (a G : ℕ) (few : a ≤ 2048) (is : HasValue v s a 1) (by : HasValue g false G one149) (over : one149 ≤ 2 ^ 18 * G) (under : G ≤ 4 * one149) where
+module _ (v g : Float) (s : Bool) (a G : ℕ) (few : a ≤ 2048) (is : HasValue v s a 1) (by : HasValue g false G one149)
+    (over : one149 ≤ 2 ^ 18 * G) (under : G ≤ 4 * one149) where
   rounds : times g v ≡ round binary32 (unlike s false) (a * G) (1 * one149)
   rounds = mul_at binary32 v g s false a 1 G one149 (lit< tt) (pow_pos 149) is by
 
@@ -56,9 +57,11 @@ module _ (v g : Float) (s : Bool) (a G : ℕ) (few : a ≤ 2048) (is : HasValue 
   none e =
       let y = grid binary32 (a * G) (1 * one149) in
       let z : a * G ≡ 0 = ap (λ (k : ℕ). k * G) e ∙ zero-mul G in
-      let h : y ≤ 0 * 2 ^ 0 = holds-above binary32 (a * G) (1 * one149) (lit< tt) 0 0 (lit< tt) (le_of_eq (ap (λ (k : ℕ). k * 2 ^ 149) z ∙ zero-mul (2 ^ 149))) in
+      let h : y ≤ 0 * 2 ^ 0 = holds-above binary32 (a * G) (1 * one149) (lit< tt) 0 0 (lit< tt)
+      (le_of_eq (ap (λ (k : ℕ). k * 2 ^ 149) z ∙ zero-mul (2 ^ 149))) in
       sample_of (times g v) (unlike s false) y (a * G)
-      (subst (λ (x : Float). HasValue x (unlike s false) y (2 ^ 149)) (sym rounds) (round-grid binary32 (unlike s false) (a * G) (1 * one149) (lt_of_le_of_lt h (lit< tt))))
+      (subst (λ (x : Float). HasValue x (unlike s false) y (2 ^ 149)) (sym rounds)
+      (round-grid binary32 (unlike s false) (a * G) (1 * one149) (lt_of_le_of_lt h (lit< tt))))
       (record { low = omega arith; high = omega arith })
 
   some : 1 ≤ a → Sample (times g v) (a * G)

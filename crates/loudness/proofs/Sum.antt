@@ -1,4 +1,5 @@
--- The f64 sum of a band's squares is exact but for the 1e-15 that it starts from: it lies between the squares' sum A and A + 2 ^ (size A - 48). Assumes nothing.
+-- The f64 sum of a band's squares is exact but for the 1e-15 that it starts from:
+-- it lies between the squares' sum A and A + 2 ^ (size A - 48). Assumes nothing.
 use mathlib.Core.Path.{◌≡◌, refl, sym, ap, ◌∙◌, subst}
 use mathlib.Core.Bool.{Bool, true, false}
 use Prim.Native.Nat.{ℕ, zero, suc, ◌+◌, ◌-◌, ◌*◌, ◌^◌, ◌≤◌, ◌<◌, zero-le}
@@ -62,7 +63,8 @@ module _ (A : ℕ) (h : A < 2 ^ 30) where
       let s = small in
       let e : 48 - size A + j ≡ 1074 = omega arith in
       add-mul (A * 2 ^ (48 - size A)) 1 (2 ^ j)
-      ∙ ap (λ (v : ℕ). v + 1 * 2 ^ j) (mul_assoc A (2 ^ (48 - size A)) (2 ^ j) ∙ ap (λ (v : ℕ). A * v) (sym (pow-add 2 (48 - size A) j) ∙ ap (λ (v : ℕ). 2 ^ v) e))
+      ∙ ap (λ (v : ℕ). v + 1 * 2 ^ j) (mul_assoc A (2 ^ (48 - size A)) (2 ^ j)
+      ∙ ap (λ (v : ℕ). A * v) (sym (pow-add 2 (48 - size A) j) ∙ ap (λ (v : ℕ). 2 ^ v) e))
       ∙ ap (λ (v : ℕ). A * one64 + v) (one-mul (2 ^ j))
 
   few : q < 2 ^ 53
@@ -89,7 +91,8 @@ add-square x y A b h s v =
     let lo : (A + b) * one64 ≤ g = holds-below binary64 num den C (A + b) 1074 (less (A + b) h) (below_it s.w A b one64 s.low) in
     let hi : g ≤ q (A + b) h * 2 ^ j (A + b) h =
     holds-above binary64 num den C (q (A + b) h) (j (A + b) h) (few (A + b) h)
-    (above_it s.w A b one64 (2 ^ (size A + 1026)) (q (A + b) h * 2 ^ j (A + b) h) s.high (le_trans (add-le-add (le_of_eq refl) (pow_mono z)) (le_of_eq (sym t)))) in
+    (above_it s.w A b one64 (2 ^ (size A + 1026)) (q (A + b) h * 2 ^ j (A + b) h) s.high
+    (le_trans (add-le-add (le_of_eq refl) (pow_mono z)) (le_of_eq (sym t)))) in
     record {
       w = g;
       is = subst (λ (u : Float). HasValue u false g one64) (sym (add_at binary64 x y s.w one64 b 1 (pow_pos 1074) (lit< tt) s.is v))
@@ -116,7 +119,8 @@ squares a (suc n) = squares a n + a n * a n
 -- a value's f64 square is exact
 square-value : (v : Float) (s : Bool) (a : ℕ) → a ≤ 2048 → HasValue v s a 1 → HasValue (mul binary64 v v) false (a * a) 1
 square-value v s a l h =
-    subst (λ (u : Float). HasValue u false (a * a) 1) (sym (mul_at binary64 v v s s a 1 a 1 (lit< tt) (lit< tt) h h ∙ ap (λ (t : Bool). round binary64 t (a * a) 1) (alike s)))
+    subst (λ (u : Float). HasValue u false (a * a) 1) (sym (mul_at binary64 v v s s a 1 a 1 (lit< tt) (lit< tt) h h
+    ∙ ap (λ (t : Bool). round binary64 t (a * a) 1) (alike s)))
     (round_whole binary64 false (a * a) (le_trans (mul-le-mul l l) (lit≤ tt)))
   where
     alike : (s : Bool) → unlike s s ≡ false

@@ -17,7 +17,8 @@ use Rattle.loudness.specs.Energy.{count, energy, one, UnitEnergy}
 
 -- its exact sum is 1 - 4.57 * 2 ^ -24
 below_it : 2 ^ 22 * energy (band_noise 9 0xc2c9_9094) + one < 2 ^ 22 * one
-unfolding energy count band_noise renormalise_vector factor_of energy64 noise_band tab sum_to fold_to draws draw noise_value noise_step signed of_int of_bits add mul div narrow sqrt_of twice_root root_to
+unfolding energy count band_noise renormalise_vector factor_of energy64 noise_band tab sum_to fold_to draws draw noise_value noise_step signed of_int of_bits
+    add mul div narrow sqrt_of twice_root root_to
 below_it = lit< tt
 
 pub not_closer : UnitEnergy (2 ^ 22) (band_noise 9 0xc2c9_9094) → ⊥

@@ -1,4 +1,5 @@
--- The exact energy of f32 samples, over whole numbers: a finite f32 is so many of 2 ^ -149, so a square, and a sum of them, is so many of 2 ^ -298.
+-- The exact energy of f32 samples, over whole numbers:
+-- a finite f32 is so many of 2 ^ -149, so a square, and a sum of them, is so many of 2 ^ -298.
 use Rattle.std.specs.Prelude.{◌≡◌, Bool, List, [], ◌∷◌, ℕ, ◌+◌, ◌*◌, ◌/◌, ◌^◌, ◌<◌, length, get_or, Float}
 use Rattle.std.specs.Float.{nan, inf, fin}
 use Rattle.std.specs.Float.Ieee.{up, down}

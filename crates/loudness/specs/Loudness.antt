@@ -14,7 +14,8 @@ widest = 176
 abbrev pub asked : ℕ
 asked = 2 ^ 16
 
--- and it lies within one in so many: the four roundings on its way move it by 7 times 2 ^ -24 at the most, but for what the start of 1e-15 adds
+-- and it lies within one in so many: the four roundings on its way move it by 7 times 2 ^ -24 at the most,
+-- but for what the start of 1e-15 adds
 abbrev pub reached : ℕ
 reached = 2 ^ 21
 

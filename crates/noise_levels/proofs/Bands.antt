@@ -61,13 +61,16 @@ module _ (m start : ℕ) (a : Shape) (big : m * last_edge ≤ length a.bins) whe
     fits = let v = band_in m (start + n) h in omega (arith, size-after m start a n (omega arith) big)
 
     new_band : band_of m (start + n) (put at wide new sofar.bins) ≡ band_noise wide (draws (at - lo m start) a.seed)
-    new_band = part-put at wide new sofar.bins (length-band_noise wide sofar.seed) (omega (arith, fits)) ∙ ap (band_noise wide) (seed_after m start a n (omega arith))
+    new_band =
+        part-put at wide new sofar.bins (length-band_noise wide sofar.seed) (omega (arith, fits))
+        ∙ ap (band_noise wide) (seed_after m start a n (omega arith))
 
     old_band : (j : ℕ) → j < n → band_of m (start + j) (put at wide new sofar.bins) ≡ band_of m (start + j) sofar.bins
     old_band j l =
         let v = band_in m (start + j) (omega arith) in
         let e : start + j + 1 + (n - j - 1) ≡ start + n = omega arith in
-        let ahead : lo m (start + j + 1) ≤ at = subst (λ (z : ℕ). lo m (start + j + 1) ≤ lo m z) e (mul-le-mul_left m (edge-up (start + j + 1) (n - j - 1) (omega arith))) in
+        let ahead : lo m (start + j + 1) ≤ at =
+        subst (λ (z : ℕ). lo m (start + j + 1) ≤ lo m z) e (mul-le-mul_left m (edge-up (start + j + 1) (n - j - 1) (omega arith))) in
         let f = fits in
         part-ahead (lo m (start + j)) (width m (start + j)) at wide new sofar.bins (omega arith) (omega arith)
         (omega (arith, length-put at wide new sofar.bins (length-band_noise wide sofar.seed) f))
@@ -80,7 +83,8 @@ module _ (m start : ℕ) (a : Shape) (big : m * last_edge ≤ length a.bins) whe
     | inl k ↦ old_band n (omega arith) j k ∙ drawn_band n j (omega arith) k
     | inr k ↦
         let e : n ≡ j = omega arith in
-        subst (λ (z : ℕ). band_of m (start + z) (noise_turn m (fold_to (turn m start) a n) (start + n)).bins ≡ band_noise (width m (start + z)) (draws (lo m (start + z) - lo m start) a.seed)) e
+        subst (λ (z : ℕ). band_of m (start + z) (noise_turn m (fold_to (turn m start) a n) (start + n)).bins
+        ≡ band_noise (width m (start + z)) (draws (lo m (start + z) - lo m start) a.seed)) e
         (new_band n (omega arith))
   ]
 

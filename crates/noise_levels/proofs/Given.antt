@@ -68,7 +68,9 @@ module _ (m : ℕ) (energies : List Float) where
         let w : p < width m i = omega (arith, ends) in
         inside (lo m i) (width m i) (gained b i) b gained-sized room j p e w
         ∙ get_or-map (times (gain_of_band energies i)) (take (width m i) (drop (lo m i) b)) p nan
-        ∙ ap (times (gain_of_band energies i)) (get_or-take (width m i) (drop (lo m i) b) p nan w ∙ get_or-drop (lo m i) b p nan ∙ ap (λ (z : ℕ). get_or b z nan) e)
+        ∙ ap (times (gain_of_band energies i))
+        (get_or-take (width m i) (drop (lo m i) b) p nan w ∙ get_or-drop (lo m i) b p nan
+        ∙ ap (λ (z : ℕ). get_or b z nan) e)
 
     turn-other : (j : ℕ) → (j < lo m i) ⊎ (lo m (i + 1) ≤ j) → get_or (gain_turn m energies b i) j nan ≡ get_or b j nan
     unfolding gain_turn
@@ -82,7 +84,8 @@ module _ (m : ℕ) (energies : List Float) where
 
     big-after : (n : ℕ) → start + n ≤ bands → m * last_edge ≤ length (fold_to turns b n)
     big-after n h =
-        fold-holds (λ (s : List Float). m * last_edge ≤ length s) turns b n big (λ s k l q. let z : start + k < bands = omega arith in omega (arith, length-gain_turn m energies s (start + k) z q))
+        fold-holds (λ (s : List Float). m * last_edge ≤ length s) turns b n big
+        (λ s k l q. let z : start + k < bands = omega arith in omega (arith, length-gain_turn m energies s (start + k) z q))
 
     -- bins that no band so far has are as they were
     not_yet : (n j : ℕ) → start + n ≤ bands → lo m (start + n) ≤ j → get_or (fold_to turns b n) j nan ≡ get_or b j nan
@@ -93,7 +96,8 @@ module _ (m : ℕ) (energies : List Float) where
         let e : start + suc n ≡ i + 1 = omega arith in
         let g : lo m (i + 1) ≤ j = subst (λ (z : ℕ). lo m z ≤ j) e l in
         let v = band_in m i (omega arith) in
-        turn-other (fold_to turns b n) (big-after n (omega arith)) i (omega arith) j (inr g) ∙ not_yet n j (omega arith) (omega arith)
+        turn-other (fold_to turns b n) (big-after n (omega arith)) i (omega arith) j (inr g)
+        ∙ not_yet n j (omega arith) (omega arith)
 
     gained-at : (n p j : ℕ) → start + n ≤ bands → p < n → lo m (start + p) ≤ j → j < lo m (start + p + 1)
         → get_or (fold_to turns b n) j nan ≡ times (gain_of_band energies (start + p)) (get_or b j nan)
@@ -102,7 +106,8 @@ module _ (m : ℕ) (energies : List Float) where
     gained-at (suc n) p j h l lo-j hi-j = elim (here_or_on p n) [
       | inl k ↦
           let e : start + p + 1 + (n - p - 1) ≡ start + n = omega arith in
-          let u : lo m (start + p + 1) ≤ lo m (start + n) = subst (λ (z : ℕ). lo m (start + p + 1) ≤ lo m z) e (mul-le-mul_left m (edge-up (start + p + 1) (n - p - 1) (omega arith))) in
+          let u : lo m (start + p + 1) ≤ lo m (start + n) =
+          subst (λ (z : ℕ). lo m (start + p + 1) ≤ lo m z) e (mul-le-mul_left m (edge-up (start + p + 1) (n - p - 1) (omega arith))) in
           turn-other (fold_to turns b n) (big-after n (omega arith)) (start + n) (omega arith) j (inl (omega arith)) ∙ gained-at n p j (omega arith) k lo-j hi-j
       | inr k ↦
           let e : p ≡ n = omega arith in
@@ -121,7 +126,8 @@ below-bound c bins j h l =
 
 pub spectrum-at : (m start end downsample seed : ℕ) (energies : List Float) (i j : ℕ) → start ≤ i → i < end → end ≤ bands
     → lo m i ≤ j → j < lo m (i + 1) → j < bound m end downsample
-    → get_or (spectrum m start end downsample seed energies) j nan ≡ times (gain_of_band energies i) (get_or (noise_shape m start seed (replicate (short_block * m) zero32)).bins j nan)
+    → get_or (spectrum m start end downsample seed energies) j nan
+    ≡ times (gain_of_band energies i) (get_or (noise_shape m start seed (replicate (short_block * m) zero32)).bins j nan)
 unfolding spectrum spectrum_over fold_range
 spectrum-at m start end downsample seed energies i j h k l lo-j hi-j b =
     let zeros = replicate (short_block * m) zero32 in
@@ -134,5 +140,6 @@ spectrum-at m start end downsample seed energies i j h k l lo-j hi-j b =
     let e : start + p ≡ i = omega arith in
     below-bound (bound m end downsample) (fold_to (turns m energies start bins big) bins n) j
     (omega (arith, bound-in m end downsample l, big-after m energies start bins big n (omega arith))) b
-    ∙ gained-at m energies start bins big n p j (omega arith) (omega arith) (subst (λ (z : ℕ). lo m z ≤ j) (sym e) lo-j) (subst (λ (z : ℕ). j < lo m (z + 1)) (sym e) hi-j)
+    ∙ gained-at m energies start bins big n p j (omega arith) (omega arith) (subst (λ (z : ℕ). lo m z ≤ j) (sym e) lo-j)
+    (subst (λ (z : ℕ). j < lo m (z + 1)) (sym e) hi-j)
     ∙ ap (λ (z : ℕ). times (gain_of_band energies z) (get_or bins j nan)) e

@@ -28,7 +28,8 @@ spectrum_of k seed energies = spectrum (factor k) k.start k.end k.downsample see
 pub record ChannelLevel (k : Settings) (seed : ℕ) : Type 0 where
   pub level : EveryBand (factor k) k.start seed (shape_of k seed)
   -- the transform is given the spectrum
-  pub transformed : (energies : List Float) → (channel_block k seed energies).samples ≡ tab (windowed (frame k) (imdct (frame k) (spectrum_of k seed energies))) (frame k + overlap)
+  pub transformed : (energies : List Float) → (channel_block k seed energies).samples
+      ≡ tab (windowed (frame k) (imdct (frame k) (spectrum_of k seed energies))) (frame k + overlap)
   -- and that has in bin j of band i, up to where it ends, what the shape has, times the band's gain
   pub given : (energies : List Float) (i j : ℕ) → k.start ≤ i → i < k.end → lo (factor k) i ≤ j → j < lo (factor k) (i + 1)
       → j < bound (factor k) k.end k.downsample

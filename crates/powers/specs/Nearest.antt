@@ -9,7 +9,8 @@ use Rattle.loops.specs.Below.{below, below_at}
 abbrev pub twice : ℕ → ℕ
 twice b = 2 * (2 ^ 52 + b % 2 ^ 52)
 
--- The bits b are those of M / 2 ^ 52 for an M of 53 digits, and 2 ^ (i / 256) lies between (2 M - 1) / 2 ^ 53 and (2 M + 1) / 2 ^ 53:
+-- The bits b are those of M / 2 ^ 52 for an M of 53 digits,
+-- and 2 ^ (i / 256) lies between (2 M - 1) / 2 ^ 53 and (2 M + 1) / 2 ^ 53:
 -- the three of them to the power 256, times 2 ^ (53 * 256)
 pub record NearestPower (i b : ℕ) : Type 0 where
   pub field : b / 2 ^ 52 ≡ 1023

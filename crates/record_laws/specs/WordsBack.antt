@@ -69,6 +69,7 @@ module _ (xs : List Float) (good : Singles xs) (pre post : List ℕ) (k : ℕ) (
   unfolding floats_at
   floats-back =
       tab-same _ _ (length xs)
-      (λ i l. ap (of_bits binary32) (word_back (λ (j : ℕ). to_bits binary32 (get_or xs j nan)) (length xs) pre post k at i l (to_bits-lt binary32 (get_or xs i nan) (good i l)))
+      (λ i l. ap (of_bits binary32) (word_back (λ (j : ℕ). to_bits binary32 (get_or xs j nan)) (length xs) pre post k at i l
+      (to_bits-lt binary32 (get_or xs i nan) (good i l)))
       ∙ of_bits-to_bits binary32 (get_or xs i nan) (good i l))
       ∙ tab-list nan xs

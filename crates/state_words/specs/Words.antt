@@ -23,7 +23,8 @@ settings_by w = record { lm = w 0; channels = w 1; start = w 2; end = w 3; downs
 unfoldable pub filter_by : (ℕ → ℕ) → Filter
 filter_by w = record { period = w 8; gain = of_bits binary32 (w 9); tapset = w 10 }
 
--- settings, loss count, seed, lag, filter; 50 coarse energies; 50 background energies; 2 de-emphasis memories; 48 predictor coefficients
+-- settings, loss count, seed, lag, filter;
+-- 50 coarse energies; 50 background energies; 2 de-emphasis memories; 48 predictor coefficients
 unfoldable pub state_by : (ℕ → ℕ) → State
 state_by w = record {
   settings = settings_by w;

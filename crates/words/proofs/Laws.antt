@@ -110,7 +110,8 @@ module _ (w : ℕ → ℕ) (xs : List ℕ) where
       → put (4 * i) n y b ≡ front (bytes_by w (i + 1)) xs (4 * (i + 1))
   bytes_more b y i v n e ye is four =
       let s : 4 * i + 4 ≡ 4 * (i + 1) = omega arith in
-      let z : put (4 * i) n y b ≡ put (4 * i) 4 (to_le_bytes w32 (w i)) (front (bytes_by w i) xs (4 * i)) = λ j. put (4 * i) (four j) ((ye ∙ ap (to_le_bytes w32) is) j) (e j) in
+      let z : put (4 * i) n y b ≡ put (4 * i) 4 (to_le_bytes w32 (w i)) (front (bytes_by w i) xs (4 * i)) =
+      λ j. put (4 * i) (four j) ((ye ∙ ap (to_le_bytes w32) is) j) (e j) in
       z ∙ put_next (4 * i) 4 (bytes_by w i) _ xs (length-bytes w i)
       ∙ ap₂ (λ u k. front u xs k) (bytes_by-more w i) s
 
