@@ -1,25 +1,8 @@
--- Whole numbers and powers of two as f64.
-use Rattle.std.proofs.Common.{◌≡◌, ℕ, zero, suc, ◌+◌, ◌-◌, ◌*◌, ◌/◌, ◌%◌, ◌^◌, ◌<◌, ◌≤◌, Bool, true, false, cond, not, T, ltb, leb, pos, negsuc, sym, refl, ap, ◌∙◌}
+-- Powers of two as f64.
+use Rattle.std.proofs.Common.{◌≡◌, ℕ, suc, ◌+◌, ◌-◌, ◌*◌, ◌/◌, ◌%◌, ◌^◌, ◌≤◌, Bool, true, false, cond, not, T, leb, pos, negsuc, refl, ap, ◌∙◌}
 use Rattle.std.proofs.Common.{arith, ne_eqb, le-leb, leb-false, leb-true}
 use borrow.Author.Tests.{lt-leb}
-use lib.Ieee.{fin, inf, Format, binary64, prec, low, emax, minus, neg, of_int, of_bits, of_fields, odd, units, round, nan_bits}
-
-neg-odd : (d q k l : ℕ) → neg (odd d false q k l) ≡ odd d true q k l
-unfolding neg odd
-neg-odd d zero k l = refl
-neg-odd d (suc q) k l = refl
-
-neg-units : (f : Format) (q k : ℕ) → neg (units f false q k) ≡ units f true q k
-unfolding neg units
-neg-units f q k = go (ltb (q * 2 ^ k) (2 ^ (low f + suc (emax f))))
-  where
-    go : (b : Bool) → neg (cond b (odd (suc (prec f)) false q k (low f)) (inf false)) ≡ cond b (odd (suc (prec f)) true q k (low f)) (inf true)
-    go true = neg-odd (suc (prec f)) q k (low f)
-    go false = refl
-
-neg-round : (f : Format) (a b : ℕ) → neg (round f false a b) ≡ round f true a b
-unfolding round
-neg-round f a b = neg-units f _ _
+use lib.Ieee.{fin, binary64, minus, of_bits, of_fields, odd, nan_bits}
 
 -- a difference of two numbers, and of both with as much more
 minus-more : (a b c : ℕ) → minus (a + c) (b + c) ≡ minus a b
@@ -32,16 +15,6 @@ minus-more a b c = go (leb b a) refl
     go false e =
         let z : (b + c) - suc (a + c) ≡ b - suc a = omega arith in
         ap (λ t. cond t (pos ((a + c) - (b + c))) (negsuc ((b + c) - suc (a + c)))) (lt-leb (b + c) (a + c) (omega (arith, leb-false b a e))) ∙ ap negsuc z
-
-pub whole_above : (q : ℕ) → 38_400 ≤ q → of_int binary64 (pos (q - 38_400)) ≡ of_int binary64 (minus q 38_400)
-whole_above q h = sym (ap (λ t. of_int binary64 (cond t (pos (q - 38_400)) (negsuc (38_400 - suc q)))) (le-leb 38_400 q h))
-
-pub whole_below : (q : ℕ) → q < 38_400 → neg (of_int binary64 (pos (38_400 - q))) ≡ of_int binary64 (minus q 38_400)
-unfolding of_int
-whole_below q h =
-    let z : 38_400 - q ≡ suc (38_400 - suc q) = omega arith in
-    neg-round binary64 (38_400 - q) 1 ∙ ap (λ n. round binary64 true n 1) z
-    ∙ sym (ap (λ t. of_int binary64 (cond t (pos (q - 38_400)) (negsuc (38_400 - suc q)))) (lt-leb 38_400 q h))
 
 field-bits : (n : ℕ) → n ≤ 182 → of_fields binary64 false (suc (n + 872)) 0 ≡ fin false 1 (minus (n + 924) 1074)
 unfolding of_fields odd

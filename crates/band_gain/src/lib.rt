@@ -12,7 +12,8 @@ use std::f64::consts::LN_2;
 // The steps of 1/256 from -150 to 0.
 const BIAS: u64 = 150 * 256;
 
-// k + 38,400, where k is the greatest whole number not above 256 x: counted from 0 on, as the definition counts.
+// k + 38,400, where k is the greatest whole number not above 256 x. By truncation on either side of 0, as the definition counts:
+// the library's `floor` answers an f64, which would have to be made a whole number by the same cases.
 fn steps_of(x: f32) -> u64
     requires gain_range { GainRange x }
     requires t { T (fits binary32 x) }
@@ -32,11 +33,7 @@ fn whole(q: u64) -> f64
     requires { q ≤ 46_592 }
     ensures { result ≡ of_int binary64 (minus q 38_400) }
 {
-    if BIAS <= q {
-        (q - BIAS) as f64
-    } else {
-        -((BIAS - q) as f64)
-    }
+    (q.cast_signed() - BIAS.cast_signed()) as f64
 }
 
 // 2 ^ (n - 150), by the exponent's field.

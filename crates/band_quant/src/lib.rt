@@ -9,6 +9,7 @@ ghost use Rattle.band_quant.specs.Renormalise.{energy64, renormalise_vector};
 const FLOOR: f64 = 1e-15;
 
 // 1e-15 and the squares of all values, in f64.
+// `buffers::energy` adds in f32: one function over both formats would want a trait, longer than the two.
 fn energy64(x: &[f32]) -> f64
     ensures { result ≡ energy64 x.now }
 {

@@ -5,7 +5,7 @@ ghost use Rattle.float_bits.specs.Words.{noise_value, wrapping_mul};
 
 use std::num::{f32_from_bits_with_nan, f32_to_bits_with_nan};
 
-// What one 32-bit word holds.
+// What one 32-bit word holds. Not `From`: between u32 and f32 that would be the number, and not its bits.
 pub trait Word: Copy {
     // the value of a word, and the word of a value
     ghost of_word: { ℕ → Self };

@@ -10,7 +10,7 @@ ghost use Rattle.float_narrow.specs.Narrow.{narrow};
 ghost use Rattle.float_narrow.specs.Clause.{clause, delivered};
 ghost use Rattle.float_narrow.specs.Steps.{Magnitude};
 
-// How many units u are nearest to q.
+// How many units u are nearest to q. By tests, each beside the clause's words: a `match` on `cmp` would be no plainer.
 fn nearest(q: u64, u: u64) -> u64
     requires u_nonzero { 0 < u }
     requires u_bound { u ≤ 2 ^ 62 }

@@ -7,7 +7,8 @@ ghost use Rattle.record.specs.Record.{state_of};
 
 use state::State;
 use state_words::{WORDS, from_words};
-use words::values_at;
+use std::array;
+use words::word_at;
 
 pub const BYTES: usize = 4 * (WORDS + history::WHOLE);
 
@@ -18,7 +19,5 @@ pub const HISTORY: usize = WORDS;
 pub fn read_state(b: &[u8]) -> State
     ensures { result ≡ state_of b.now }
 {
-    let mut w = [0u32; WORDS];
-    values_at(b, 0, &mut w);
-    from_words(&w)
+    from_words(&array::from_fn(|k| word_at(b, k)))
 }
