@@ -15,6 +15,7 @@ const MULTIPLIER: u32 = 1_664_525;
 const ADDEND: u32 = 1_013_904_223;
 
 // The next seed of the linear congruential generator.
+#[tactic(auto, unfolding(crate::specs::Draw::draw, float_bits::specs::Words::wrapping_mul))]
 pub fn celt_lcg_rand(seed: u32) -> u32
     ensures { result ≡ draw seed }
 {
