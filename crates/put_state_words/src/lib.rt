@@ -2,15 +2,12 @@
 
 #![tactic(auto)]
 
-ghost use Rattle.std.specs.Prelude.{◌≡◌, ◌<◌, ◌+◌, ◌++◌, length, get_or, to_bits};
-ghost use Rattle.std.specs.Float.{nan, binary32};
+ghost use Rattle.std.specs.Prelude.{◌≡◌, ◌+◌, ◌++◌, length};
 ghost use Rattle.state_words.specs.Words.{head_words, float_words, state_words};
 
 use float_bits::words::Word;
 use state::State;
 use state_words::{COARSE, MEMORIES, WORDS};
-use std::array;
-
 // The words ahead of the energies.
 #[tactic(auto, unfolding(state_words::specs::Words::head_words))]
 fn head_words(s: State) -> [u32; COARSE]
@@ -31,25 +28,25 @@ fn head_words(s: State) -> [u32; COARSE]
     ]
 }
 
-fn float_words<const N: usize>(xs: &[f32; N]) -> [u32; N]
-    ensures { result ≡ float_words xs.now }
+// By number, in place: of a zip with `iter_mut` the check knows the items alone, not what w becomes.
+// Arrays made by `from_fn` and copied in take 200 ns for a state read and written, where this takes 170.
+fn put_floats(w: &mut [u32], xs: &[f32])
+    requires { length w.old ≡ length xs.now }
+    ensures { w.new ≡ float_words xs.now }
 {
-    array::from_fn(
-        |k|
-            requires { k < N }
-            ensures { result ≡ to_bits binary32 (get_or xs.entry.now k nan) }
-        { xs[k].to_word() },
-    )
+    for (k, x) in xs.iter().enumerate() {
+        w[k] = x.to_word();
+    }
 }
 
-// The words of two lists, one behind the other. Of a part of the state's words: no type says a length N + M.
-fn put_both<const N: usize, const M: usize>(w: &mut [u32], x: &[f32; N], y: &[f32; M])
-    requires { length w.old ≡ N + M }
+// The words of two lists, one behind the other, in a part of the state's: no type says a length N + M.
+fn put_both(w: &mut [u32], x: &[f32], y: &[f32])
+    requires { length w.old ≡ length x.now + length y.now }
     ensures { w.new ≡ float_words x.now ++ float_words y.now }
 {
-    let (first, second) = w.split_at_mut(N);
-    first.copy_from_slice(&float_words(x));
-    second.copy_from_slice(&float_words(y));
+    let (first, second) = w.split_at_mut(x.len());
+    put_floats(first, x);
+    put_floats(second, y);
 }
 
 // Of a borrowed array: of a local one the check no longer knows the length once two parts have come back.
