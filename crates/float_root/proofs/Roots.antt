@@ -90,9 +90,6 @@ first_small q r h l = lt_of_le_of_lt (mul-le-mul (le_of_lt h) (two r l)) (lit< t
     two r l = omega arith
 
 -- ---- from the fields to the radicand
-pub rad_sub : (e t m k : ℕ) → e ≡ 0 → ScaledTo (t * 2 ^ 149) m k → ScaledTo (significand binary32 e t * 2 ^ 149) m k
-rad_sub e t m k z h = subst (λ (x : ℕ). ScaledTo (significand binary32 x t * 2 ^ 149) m k) (sym z) h
-
 pub rad_norm : (e t m k : ℕ) → (e ≡ 0 → ⊥) → ScaledTo ((2 ^ 23 + t) * 2 ^ (e + 148)) m k → ScaledTo (significand binary32 e t * 2 ^ 149) m k
 rad_norm zero t m k n h = absurd (n refl)
 rad_norm (suc x) t m k n h =
@@ -130,9 +127,6 @@ root-down n m k s w lo hi g =
     let a : 2 ^ 23 ≤ s = root-lo m s w.low hi in
     let b : s < 2 ^ 24 = root-hi m s lo w.high in
     record { m = m; k = k; q = s; scaled = w; low = a; high = omega arith; under = omega arith; over = omega arith; is = refl }
-
-pub root-few : (m s : ℕ) → s * s ≤ m → m < 2 ^ 48 → s < 2 ^ 24
-root-few = root-hi
 
 -- ---- the values of a format as whole numbers of units
 pub pow_le_back : (a l : ℕ) → 2 ^ a ≤ 2 ^ l → a ≤ l

@@ -11,9 +11,6 @@ returns-then-precise-ge5183643170835005440 c =
     let w : b < 2 ^ 64 = omega arith in
     ap (λ (z : ℕ). z + 0x7f80_0000) c.sign_bit-sign.ensures ∙ bits-inf b w c.if-precise-ge5183643170835005440.true c.requires
 
-pub nearest_number-requires : goal.nearest_number-requires
-nearest_number-requires c = record { t_bound = omega arith; t_bound_2 = omega arith }
-
 pub returns : goal.returns
 returns c =
     let b = c.args.b in

@@ -1,11 +1,6 @@
 use Prim.Native.Nat.{◌/◌, ◌%◌, ◌^◌}
-use Rattle.float_root.proofs.Roots.{rad_sub, rad_norm}
+use Rattle.float_root.proofs.Roots.{rad_norm}
 use Rattle.float_root.proofs.radicand.Goals as goal
-
-pub returns-then-e-eq0 : goal.returns-then-e-eq0
-returns-then-e-eq0 c =
-    let b = c.args.b in
-    rad_sub (b / 2 ^ 23) (b % 2 ^ 23) c.scale.result.m c.scale.result.k c.if-e-eq0.true c.scale.ensures
 
 pub returns : goal.returns
 returns c =

@@ -1,8 +1,7 @@
 use Prim.Native.Nat.{◌/◌, ◌%◌, ◌^◌, ◌*◌}
-use native.Mathlib.Omega.{arith}
 use lib.Ieee.{binary32}
 use Rattle.float_bits.specs.Steps.{significand}
-use Rattle.float_root.proofs.Roots.{root-up, root-down, root-few}
+use Rattle.float_root.proofs.Roots.{root-up, root-down}
 use Rattle.float_root.proofs.root_bits.Goals as goal
 
 pub returns-then-s-m : goal.returns-then-s-m
@@ -11,12 +10,6 @@ returns-then-s-m c =
     let p = c.radicand-m in
     let s = c.isqrt-s in
     root-up (significand binary32 (b / 2 ^ 23) (b % 2 ^ 23) * 2 ^ 149) p.result.m p.result.k s.result p.ensures s.ensures.0 s.ensures.1 c.if-s-m.true
-
-pub overflow_add-result-2 : goal.overflow_add-result-2
-overflow_add-result-2 c =
-    let p = c.radicand-m in
-    let s = c.isqrt-s in
-    omega (arith, root-few p.result.m s.result s.ensures.0 p.ensures.high, p.ensures.few)
 
 pub returns : goal.returns
 returns c =

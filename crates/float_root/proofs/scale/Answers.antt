@@ -6,17 +6,8 @@ use native.Mathlib.Omega.{arith}
 use Rattle.float_root.proofs.Roots.{start, step, some_left, first_small}
 use Rattle.float_root.proofs.scale.Goals as goal
 
-pub overflow_add-m : goal.overflow_add-m
-overflow_add-m c = omega arith
-
-pub overflow_mul-m : goal.overflow_mul-m
-overflow_mul-m c = omega (arith, first_small c.args.q (c.args.h % 2) c.requires.q_bound (mod-lt c.args.h (lit< tt)))
-
 pub loop-m-init : goal.loop-m-init
 loop-m-init c = (start c.args.q c.args.h, first_small c.args.q (c.args.h % 2) c.requires.q_bound (mod-lt c.args.h (lit< tt)), omega arith)
-
-pub overflow_mul-m-in-loop-m : goal.overflow_mul-m-in-loop-m
-overflow_mul-m-in-loop-m c = omega arith
 
 left : (c : goal.In-loop-m) → 0 < c.loop-m.k
 left c = let l = c.loop-m in
@@ -30,6 +21,3 @@ loop-m-smaller c = omega (arith, left c)
 
 pub loop-m-preserved : goal.loop-m-preserved
 loop-m-preserved c = (step c.loop-m.m c.loop-m.k (left c) ∙ c.loop-m.invariant.0, omega arith, omega arith)
-
-pub returns : goal.returns
-returns c = record { same = c.loop-m.invariant.0; low = c.loop-m-test.false; high = c.loop-m.invariant.1; few = c.loop-m.invariant.2 }
