@@ -35,17 +35,17 @@ pub int_to_float-t : goal.int_to_float-t
 unfolding in_float
 int_to_float-t c = le→leb c.truncating_f64_to_u64-t.result (2 ^ 53) (omega (
   arith,
-  (small-below _ _ _ (fine-at c.f32_to_f64-w.ensures c.requires.gain_range c.requires.t) c.if-w.false c.truncating_f64_to_u64-t.ensures),
+  small-below _ _ _ (fine-at c.f32_to_f64-w.ensures c.requires.gain_range c.requires.t) c.if-w.false c.truncating_f64_to_u64-t.ensures,
 ))
 
 pub overflow_sub-result-then-v-t : goal.overflow_sub-result-then-v-t
 overflow_sub-result-then-v-t c =
-    (small-below _ _ _ (fine-at c.f32_to_f64-w.ensures c.requires.gain_range c.requires.t) c.if-w.false c.truncating_f64_to_u64-t.ensures)
+    small-below _ _ _ (fine-at c.f32_to_f64-w.ensures c.requires.gain_range c.requires.t) c.if-w.false c.truncating_f64_to_u64-t.ensures
 
 pub overflow_sub-result-else-v-t : goal.overflow_sub-result-else-v-t
 overflow_sub-result-else-v-t c = omega (
   arith,
-  (small-below _ _ _ (fine-at c.f32_to_f64-w.ensures c.requires.gain_range c.requires.t) c.if-w.false c.truncating_f64_to_u64-t.ensures),
+  small-below _ _ _ (fine-at c.f32_to_f64-w.ensures c.requires.gain_range c.requires.t) c.if-w.false c.truncating_f64_to_u64-t.ensures,
 )
 
 pub returns-then-v-t : goal.returns-then-v-t

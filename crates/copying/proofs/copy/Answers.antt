@@ -9,4 +9,4 @@ unfolding copied
 copied_is src dst out n h e = grind (arith, common_steps, take_all {A = Float}, drop_of_length-le {A = Float})
 
 pub returns : goal.returns
-returns c = copied_is _ _ _ _ c.min-n.ensures (c.copy_from_slice.ensures.after)
+returns c = copied_is _ _ _ _ c.min-n.ensures c.copy_from_slice.ensures.after
