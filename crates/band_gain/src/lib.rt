@@ -36,7 +36,7 @@ fn whole(q: u64) -> f64
     (q.cast_signed() - BIAS.cast_signed()) as f64
 }
 
-// 2 ^ (n - 150), by the exponent's field.
+// 2 ^ (n - 150), by the exponent's field: the library's `powi` multiplies its way there, and its `exp2` promises no value.
 fn two_to(n: u64) -> f64
     requires { n ≤ 182 }
     ensures { result ≡ fin false 1 (minus n 150) }
