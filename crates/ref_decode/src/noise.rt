@@ -15,6 +15,7 @@ pub(crate) fn noise_made(s: State, history: &mut [f32]) -> Made
     ensures { (result ≡ noise_made s) × (history.new ≡ with_tails history.old (tails_by_noise s (tails history.old))) }
 {
     let k = s.settings;
+    // by `as`: to usize, as wide as a word at least, std has no `From` of one
     let coarse = lower_energies(
         s.coarse,
         k.channels as usize,
@@ -24,7 +25,7 @@ pub(crate) fn noise_made(s: State, history: &mut [f32]) -> Made
     );
     let energies = read_energies(coarse, s.background, s.loss_count);
     let seed = noise_loss(k, history, s.seed, energies).unwrap();
-    // a field that is an array goes into the answer by a variable
+    // a field that is an array goes into the answer by a variable: straight in the literal it is not covered by the check
     let predictor = s.predictor;
     Made {
         kind: Kind::Noise,

@@ -19,14 +19,15 @@ pub(crate) fn pitch_made(s: State, history: &mut [f32]) -> Made
         × (history.new ≡ with_tails history.old (tails_by_pitch s (pitch_made s history.old) (tails history.old))) }
 {
     let first = s.loss_count == 0;
-    // carried, unless this is the first loss
-    let mut lag = s.lag;
-    let mut predictor = s.predictor;
-    if first {
+    let carried = s.predictor;
+    let (lag, predictor) = if first {
         let two = s.settings.is_stereo();
-        lag = find_lag(two, history).unwrap();
-        predictor = fit_predictor(two, history, predictor).unwrap();
-    }
+        let lag = find_lag(two, history).unwrap();
+        let predictor = fit_predictor(two, history, carried).unwrap();
+        (lag, predictor)
+    } else {
+        (s.lag, carried)
+    };
     let pitch = Pitch {
         lag,
         first,
@@ -34,7 +35,7 @@ pub(crate) fn pitch_made(s: State, history: &mut [f32]) -> Made
         filter: s.filter,
     };
     pitch_loss(s.settings, history, pitch).unwrap();
-    // a field that is an array goes into the answer by a variable
+    // a field that is an array goes into the answer by a variable: straight in the literal it is not covered by the check
     let coarse = s.coarse;
     Made {
         kind: Kind::Pitch,

@@ -1,6 +1,6 @@
 -- `ref_decode::pitch::pitch_made` meets its contract: no step refuses, and lag and coefficients are those of the definition.
-use Rattle.std.proofs.Common.{◌≡◌, ap, ◌∙◌, cond, length}
-use Rattle.std.specs.Prelude.{eqb}
+use Rattle.std.proofs.Common.{◌≡◌, ap, ◌∙◌, cond, List, ℕ, length}
+use Rattle.std.specs.Prelude.{Float, eqb}
 use Rattle.std.specs.Result.{is_ok}
 use borrow.Author.Tests.{eq-eqb, ne_eqb}
 use Rattle.history.specs.History.{whole, tails}
@@ -23,15 +23,18 @@ unwrap-predictor-requires c =
     let l = (ok-start c.args.s c.args.history.now c.requires.0).history in
     ap is_ok (ok_is _ _ c.fit_predictor.ensures (eq-eqb _ whole l))
 
+-- the lag is searched and the coefficients are fitted at the first loss alone
 pub unwrap-requires : goal.unwrap-requires
 unwrap-requires c =
     let s = c.args.s in
     let h = c.args.history.now in
     let l = eq-eqb (length h) whole (ok-start s h c.requires.0).history in
-    let lag : c.if-first.lag ≡ cond (eqb s.loss_count 0) (lag_of (stereo s.settings) h) s.lag =
+    let lag : c.if-first.lag.0 ≡ cond (eqb s.loss_count 0) (lag_of (stereo s.settings) h) s.lag =
     elim c.if-first.branch [
-      | then-first w ↦ rw (eq-eqb s.loss_count 0 w.if-first.true) (w.lag-is ∙ ok_value _ _ w.find_lag.ensures l w.unwrap-lag.ensures ∙ ap (λ b. lag_of b h) w.is_stereo-two.ensures)
-      | else-first w ↦ rw (ne_eqb s.loss_count 0 w.if-first.false) w.lag-is
+      | then-first w ↦
+          rw (eq-eqb s.loss_count 0 w.if-first.true)
+          (ap (λ (p : ℕ × List Float). p.0) w.lag-is ∙ ok_value _ _ w.find_lag.ensures l w.unwrap-lag.ensures ∙ ap (λ b. lag_of b h) w.is_stereo-two.ensures)
+      | else-first w ↦ rw (ne_eqb s.loss_count 0 w.if-first.false) (ap (λ (p : ℕ × List Float). p.0) w.lag-is)
     ] in
     reply-taken _ _ _ c.pitch_loss.ensures ∙ pitch_taken s h c.requires.0 c.requires.1 _ lag
 
@@ -40,14 +43,19 @@ returns c =
     let s = c.args.s in
     let h = c.args.history.now in
     let l = eq-eqb (length h) whole (ok-start s h c.requires.0).history in
-    let lag : c.if-first.lag ≡ cond (eqb s.loss_count 0) (lag_of (stereo s.settings) h) s.lag =
+    let lag : c.if-first.lag.0 ≡ cond (eqb s.loss_count 0) (lag_of (stereo s.settings) h) s.lag =
     elim c.if-first.branch [
-      | then-first w ↦ rw (eq-eqb s.loss_count 0 w.if-first.true) (w.lag-is ∙ ok_value _ _ w.find_lag.ensures l w.unwrap-lag.ensures ∙ ap (λ b. lag_of b h) w.is_stereo-two.ensures)
-      | else-first w ↦ rw (ne_eqb s.loss_count 0 w.if-first.false) w.lag-is
+      | then-first w ↦
+          rw (eq-eqb s.loss_count 0 w.if-first.true)
+          (ap (λ (p : ℕ × List Float). p.0) w.lag-is ∙ ok_value _ _ w.find_lag.ensures l w.unwrap-lag.ensures ∙ ap (λ b. lag_of b h) w.is_stereo-two.ensures)
+      | else-first w ↦ rw (ne_eqb s.loss_count 0 w.if-first.false) (ap (λ (p : ℕ × List Float). p.0) w.lag-is)
     ] in
-    let predictor : c.if-first.predictor ≡ cond (eqb s.loss_count 0) (fitted_to (stereo s.settings) s.predictor (tails h)) s.predictor =
+    let predictor : c.if-first.lag.1 ≡ cond (eqb s.loss_count 0) (fitted_to (stereo s.settings) s.predictor (tails h)) s.predictor =
     elim c.if-first.branch [
-      | then-first w ↦ rw (eq-eqb s.loss_count 0 w.if-first.true) (w.predictor-is ∙ ok_value _ _ w.fit_predictor.ensures l w.unwrap-predictor.ensures ∙ ap (λ b. fitted_to b s.predictor (tails h)) w.is_stereo-two.ensures)
-      | else-first w ↦ rw (ne_eqb s.loss_count 0 w.if-first.false) w.predictor-is
+      | then-first w ↦
+          rw (eq-eqb s.loss_count 0 w.if-first.true)
+          (ap (λ (p : ℕ × List Float). p.1) w.lag-is ∙ ok_value _ _ w.fit_predictor.ensures l w.unwrap-predictor.ensures
+          ∙ ap (λ b. fitted_to b s.predictor (tails h)) w.is_stereo-two.ensures)
+      | else-first w ↦ rw (ne_eqb s.loss_count 0 w.if-first.false) (ap (λ (p : ℕ × List Float). p.1) w.lag-is)
     ] in
     pitch_path s h c.requires.0 c.requires.1 _ lag _ _ _ predictor c.pitch_loss.ensures
