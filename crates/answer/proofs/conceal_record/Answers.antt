@@ -1,5 +1,5 @@
 -- `conceal_record` meets its contract: what was read is the record's, and the call its outcome.
-use Rattle.std.proofs.Common.{length, ap, sym, ◌∙◌}
+use Rattle.std.proofs.Common.{length, ap, sym, ◌∙◌, rules}
 use Rattle.loss.specs.Loss.{in_buffer, outcome_of}
 use Rattle.words.specs.Bytes.{floats_are_values}
 use Rattle.answer.proofs.Answers.{outcome-from}
@@ -11,5 +11,5 @@ returns c =
     let a = c.args in
     let state = c.read_state.ensures in
     let read = c.values_at.ensures ∙ floats_are_values a.rec.now 161 (length a.history.now) in
-    let made = outcome-from a.rec.now _ _ (length a.history.now) (length a.pcm.now) state read c.requires.0 c.requires.1 in
+    let made = outcome-from a.rec.now _ _ (length a.history.now) (length a.pcm.now) state read (search rules) (search rules) in
     ap (λ s. outcome_of s call.result call.new.pcm call.new.history) (sym state) ∙ call.ensures ∙ ap (in_buffer a.pcm.now) made

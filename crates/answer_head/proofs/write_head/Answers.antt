@@ -13,7 +13,8 @@ returns-in_err-put_values_at c =
 pub returns-in_err-put_values_at-2 : goal.returns-in_err-put_values_at-2
 returns-in_err-put_values_at-2 c =
     let n = length c.args.pcm.now in
-    absurd (true≢false (sym (put-taken c.put_values_at.new.b 3 n _ c.put_values_at-2.ensures (omega (arith, c.put_values_at.auto.b))) ∙ ap is_ok c.in_err-put_values_at-2.was))
+    let taken = put-taken c.put_values_at.new.b 3 n _ c.put_values_at-2.ensures (omega (arith, c.put_values_at.auto.b)) in
+    absurd (true≢false (sym taken ∙ ap is_ok c.in_err-put_values_at-2.was))
 
 pub returns : goal.returns
 returns c =
