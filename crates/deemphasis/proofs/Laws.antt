@@ -12,7 +12,8 @@ use Rattle.loops.specs.Fold.{fold_more, fold-none}
 use Rattle.loops.specs.Front.{tab, front, tab-same}
 use Rattle.loops.specs.Logic.{and-true, and_first, and_second}
 use Rattle.reply.specs.Reply.{reply, reply-yes, reply-no}
-use Rattle.deemphasis.specs.Deemphasis.{next_memory, memory_to, pcm_value, sample_at, value_at, has_room, Room, sound, deemphasis, length_pcm, deemphasised, deemphasis_mono, deemphasis_stereo}
+use Rattle.deemphasis.specs.Deemphasis.{next_memory, memory_to, pcm_value, sample_at, value_at, has_room, Room, sound, deemphasis, length_pcm}
+use Rattle.deemphasis.specs.Deemphasis.{deemphasised, deemphasis_mono, deemphasis_stereo}
 
 pub memory_none : (v : List Float) (mem : Float) → mem ≡ memory_to v mem 0
 unfolding memory_to
@@ -77,12 +78,6 @@ unfolding tab
 first-set f [] h = let z : ⊥ = omega arith in absurd z
 first-set f (x ∷ m) h = refl
 
-pair_is : (m : List Float) → length m ≡ 2 → m ≡ get_or m 0 nan ∷ get_or m 1 nan ∷ []
-pair_is [] e = let z : ⊥ = omega arith in absurd z
-pair_is (x ∷ []) e = let z : ⊥ = omega arith in absurd z
-pair_is (x ∷ y ∷ []) e = refl
-pair_is (x ∷ y ∷ z ∷ m) e = let z : ⊥ = omega arith in absurd z
-
 module _ (d : ℕ) (v memories pcm : List Float) (two : length memories ≡ 2) where
   pub mono-done : has_room d (length v) (length pcm) ≡ true → (r : Float) (p : List Float) → r ≡ memory_to v (get_or memories 0 nan) (length v)
       → p ≡ front (tab (value_at d (v ∷ []) (get_or memories 0 nan ∷ [])) (length v / d)) pcm (length v / d)
@@ -107,13 +102,14 @@ module _ (d : ℕ) (v memories pcm : List Float) (two : length memories ≡ 2) w
   module _ (w : List Float) where
     pub stereo-done : length v ≡ length w → has_room d (length v) (length pcm / 2) ≡ true → (r p : List Float)
         → r ≡ memory_to v (get_or memories 0 nan) (length v) ∷ memory_to w (get_or memories 1 nan) (length v) ∷ []
-        → p ≡ front (tab (value_at d (v ∷ w ∷ []) (get_or memories 0 nan ∷ get_or memories 1 nan ∷ [])) (2 * (length v / d))) pcm (2 * (length v / d))
+        → p ≡ front (tab (value_at d (v ∷ w ∷ []) memories) (2 * (length v / d))) pcm (2 * (length v / d))
         → reply true (sound p r) ≡ deemphasis_stereo d v w memories pcm
     unfolding deemphasis_stereo deemphasis tab
     stereo-done l e r p er ep =
         done d (v ∷ w ∷ []) memories pcm _ (ap₂ ◌&&◌ (eq-eqb (length v) (length w) l) e) r p (2 * (length v / d))
-        (er ∙ ap (λ z. memory_to v (get_or memories 0 nan) (length v) ∷ memory_to w (get_or memories 1 nan) (length v) ∷ z) (sym (drop_of_length-le memories {i = 2} (omega arith))))
-        (ep ∙ ap (λ z. front (tab (value_at d (v ∷ w ∷ []) z) (2 * (length v / d))) pcm (2 * (length v / d))) (sym (pair_is memories two)))
+        (er ∙ ap (λ z. memory_to v (get_or memories 0 nan) (length v) ∷ memory_to w (get_or memories 1 nan) (length v) ∷ z)
+        (sym (drop_of_length-le memories {i = 2} (omega arith))))
+        ep
         (sym (length_pcm d (v ∷ w ∷ []) memories))
 
     pub stereo-short : has_room d (length v) (length pcm / 2) ≡ false → reply false (sound pcm memories) ≡ deemphasis_stereo d v w memories pcm

@@ -18,6 +18,7 @@ fn filter_mono(v: &[f32], memory: f32, downsample: usize, pcm: &mut [f32]) -> f3
         pcm.old (length v.now / downsample)) }
 {
     let mut mem = memory;
+    // The PCM goes by number: of a zip with `iter_mut` a proof has the items alone, not the list that they leave.
     for (q, part) in v.chunks_exact(downsample).enumerate() {
         pcm[q] = pcm_value(mem, part[0]);
         for x in part {

@@ -2,7 +2,8 @@
 
 #![tactic(auto)]
 
-ghost use Rattle.std.specs.Prelude.{◌≡◌, [], ◌∷◌, ◌*◌, ◌/◌, length};
+ghost use Rattle.std.specs.Prelude.{◌≡◌, [], ◌∷◌, ◌*◌, ◌/◌, length, get_or};
+ghost use Rattle.std.specs.Float.{nan};
 ghost use Rattle.loops.specs.Front.{front, tab};
 ghost use Rattle.reply.specs.Reply.{replied, value_or};
 ghost use Rattle.deemphasis.specs.Deemphasis.{memory_to, Room, value_at, sound, deemphasis_stereo};
@@ -15,18 +16,17 @@ use reply::Refused;
 fn filter_stereo(
     v: &[f32],
     w: &[f32],
-    left: f32,
-    right: f32,
+    memories: [f32; 2],
     downsample: usize,
     pcm: &mut [f32],
 ) -> [f32; 2]
     requires { (length w.now ≡ length v.now) × Room downsample (length v.now) (length pcm.old / 2) }
-    ensures { (result ≡ memory_to v.now left (length v.now) ∷ memory_to w.now right (length v.now) ∷ [])
-        × (pcm.new ≡ front (tab (value_at downsample (v.now ∷ w.now ∷ []) (left ∷ right ∷ [])) (2 * (length v.now / downsample)))
+    ensures { (result ≡ memory_to v.now (get_or memories 0 nan) (length v.now) ∷ memory_to w.now (get_or memories 1 nan) (length v.now) ∷ [])
+        × (pcm.new ≡ front (tab (value_at downsample (v.now ∷ w.now ∷ []) memories) (2 * (length v.now / downsample)))
         pcm.old (2 * (length v.now / downsample))) }
 {
-    let mut first = left;
-    let mut second = right;
+    let [mut first, mut second] = memories;
+    // The PCM goes by number: of a zip with `iter_mut` a proof has the items alone, not the list that they leave.
     for (q, (part, other)) in v
         .chunks_exact(downsample)
         .zip(w.chunks_exact(downsample))
@@ -55,5 +55,5 @@ pub fn deemphasis_stereo(
     if v.len() != w.len() || !has_room(downsample, v.len(), pcm.len() / 2) {
         return Err(Refused);
     }
-    Ok(filter_stereo(v, w, memories[0], memories[1], downsample, pcm))
+    Ok(filter_stereo(v, w, memories, downsample, pcm))
 }

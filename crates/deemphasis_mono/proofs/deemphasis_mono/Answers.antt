@@ -12,10 +12,12 @@ filter_mono-requires c =
 pub returns : goal.returns
 returns c =
     let a = c.args in
-    mono-done a.downsample a.v.now a.memories a.pcm.now (let here : length c.args.memories ≡ 2 = search rules in here) (sym c.has_room.ensures ∙ c.if-not-has_room.false)
+    let two : length a.memories ≡ 2 = search rules in
+    mono-done a.downsample a.v.now a.memories a.pcm.now two (sym c.has_room.ensures ∙ c.if-not-has_room.false)
     c.filter_mono.result c.filter_mono.new.pcm c.filter_mono.ensures.0 c.filter_mono.ensures.1
 
 pub returns-then-not-has_room : goal.returns-then-not-has_room
 returns-then-not-has_room c =
     let a = c.args in
-    mono-refused a.downsample a.v.now a.memories a.pcm.now (let here : length c.args.memories ≡ 2 = search rules in here) (sym c.has_room.ensures ∙ c.if-not-has_room.true)
+    let two : length a.memories ≡ 2 = search rules in
+    mono-refused a.downsample a.v.now a.memories a.pcm.now two (sym c.has_room.ensures ∙ c.if-not-has_room.true)

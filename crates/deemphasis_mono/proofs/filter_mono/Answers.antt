@@ -28,7 +28,8 @@ pub loop-x-init : goal.loop-x-init
 loop-x-init c =
     let d = c.args.downsample in
     let n : c.in-Some.q * d ≡ c.in-Some.q * d + 0 = omega arith in
-    c.loop-q.invariant.mem ∙ ap (λ k. memory_to c.args.v.now c.args.memory (k * d)) (sym c.in-Some.ensures.steps.1) ∙ ap (memory_to c.args.v.now c.args.memory) n
+    c.loop-q.invariant.mem ∙ ap (λ k. memory_to c.args.v.now c.args.memory (k * d)) (sym c.in-Some.ensures.steps.1)
+    ∙ ap (memory_to c.args.v.now c.args.memory) n
 
 pub loop-x-preserved : goal.loop-x-preserved
 loop-x-preserved c =

@@ -27,9 +27,9 @@ loop-q-init c =
       size = (ap (λ x. x.size) x ∙ c.chunks_exact.ensures.size, ap (λ x. x.size) y ∙ c.chunks_exact-2.ensures.size);
       rest = rw zero-mul (ap (λ x. x.rest.now) x ∙ c.chunks_exact.ensures.rest, ap (λ x. x.rest.now) y ∙ c.chunks_exact-2.ensures.rest);
       within = omega arith;
-      first = rw zero-mul (memory_none a.v.now a.left);
-      second = rw zero-mul (memory_none a.w.now a.right);
-      pcm = tab-none (value_at a.downsample (a.v.now ∷ a.w.now ∷ []) (a.left ∷ a.right ∷ [])) a.pcm.now;
+      first = rw zero-mul (memory_none a.v.now (get_or a.memories 0 nan));
+      second = rw zero-mul (memory_none a.w.now (get_or a.memories 1 nan));
+      pcm = tab-none (value_at a.downsample (a.v.now ∷ a.w.now ∷ []) a.memories) a.pcm.now;
     })
 
 -- where k values of both are kept, there is room for one more of each
@@ -81,8 +81,8 @@ loop-x-init c =
     let h = c.loop-q.invariant in
     let k = sym c.in-Some.ensures.steps.1 in
     let n : c.in-Some.q * d ≡ c.in-Some.q * d + 0 = omega arith in (
-      h.first ∙ ap (λ k. memory_to a.v.now a.left (k * d)) k ∙ ap (memory_to a.v.now a.left) n,
-      h.second ∙ ap (λ k. memory_to a.w.now a.right (k * d)) k ∙ ap (memory_to a.w.now a.right) n,
+      h.first ∙ ap (λ k. memory_to a.v.now (get_or a.memories 0 nan) (k * d)) k ∙ ap (memory_to a.v.now (get_or a.memories 0 nan)) n,
+      h.second ∙ ap (λ k. memory_to a.w.now (get_or a.memories 1 nan) (k * d)) k ∙ ap (memory_to a.w.now (get_or a.memories 1 nan)) n,
     )
 
 pub loop-x-preserved : goal.loop-x-preserved
@@ -105,13 +105,16 @@ loop-x-preserved c =
     let one : iter_rest (zip_first i) ≡ part = cc in
     let two : iter_rest (zip_second i) ≡ other = cc in
     let j = length l.yielded in
-    let t = zip_turn part other l.yielded i l.x-iterator c.next-in-loop-x.new.self c.next-in-loop-x.result one two l.yielded_by (c.in-Some-2.x, c.in-Some-2.y) c.in-Some-2.is c.next-in-loop-x.ensures.steps in
-    let n : q * d + j + 1 ≡ q * d + length (l.yielded ++ (c.in-Some-2.x, c.in-Some-2.y) ∷ []) = omega (arith, length_push l.yielded (c.in-Some-2.x, c.in-Some-2.y)) in
+    let x = c.next-in-loop-x in
+    let t =
+    zip_turn part other l.yielded i l.x-iterator x.new.self x.result one two l.yielded_by (c.in-Some-2.x, c.in-Some-2.y) c.in-Some-2.is x.ensures.steps in
+    let n : q * d + j + 1 ≡ q * d + length (l.yielded ++ (c.in-Some-2.x, c.in-Some-2.y) ∷ []) =
+    omega (arith, length_push l.yielded (c.in-Some-2.x, c.in-Some-2.y)) in
     let below : j < d = omega (arith, t.0, long) in (
       c.next_memory-first.ensures ∙ ap (next_memory l.first) (t.2 nan ∙ part-at d q v part _ cut long j below)
-          ∙ memory_more v a.left l.first (q * d + j) l.invariant.0 ∙ ap (memory_to v a.left) n,
+          ∙ memory_more v (get_or a.memories 0 nan) l.first (q * d + j) l.invariant.0 ∙ ap (memory_to v (get_or a.memories 0 nan)) n,
       c.next_memory-second.ensures ∙ ap (next_memory l.second) (t.3 nan ∙ part-at d q w other _ cut' long' j below)
-          ∙ memory_more w a.right l.second (q * d + j) l.invariant.1 ∙ ap (memory_to w a.right) n,
+          ∙ memory_more w (get_or a.memories 1 nan) l.second (q * d + j) l.invariant.1 ∙ ap (memory_to w (get_or a.memories 1 nan)) n,
     )
 
 pub loop-q-preserved : goal.loop-q-preserved
@@ -133,8 +136,9 @@ loop-q-preserved c =
     let i = c.into_iter-x-iterator.result in
     let one : iter_rest (zip_first i) ≡ part = cc in
     let two : iter_rest (zip_second i) ≡ other = cc in
-    let t = zip_end part other l.yielded i l.x-iterator c.next-in-loop-x.new.self c.next-in-loop-x.result one two l.yielded_by c.in-None-2.is c.next-in-loop-x.ensures.steps in
-    let f : ℕ → Float = value_at d (v ∷ w ∷ []) (a.left ∷ a.right ∷ []) in
+    let e = c.next-in-loop-x in
+    let t = zip_end part other l.yielded i l.x-iterator e.new.self e.result one two l.yielded_by c.in-None-2.is e.ensures.steps in
+    let f : ℕ → Float = value_at d (v ∷ w ∷ []) a.memories in
     let z : q * d + 0 ≡ q * d = omega arith in
     let end : q * d + length l.yielded ≡ (q + 1) * d = omega (arith, t, long, long') in
     let n : c.next.new.self.count ≡ q + 1 = s.2 ∙ ap (λ k. k + 1) (sym s.1) in
@@ -144,10 +148,10 @@ loop-q-preserved c =
     let y = c.pcm_value-in-loop-q.result in
     let r : x ≡ f (2 * q) =
     c.pcm_value.ensures ∙ ap (pcm_value c.loop-q.first) (part-at d q v part _ cut long 0 c.requires.1.some ∙ ap (λ k. get_or v k nan) z)
-    ∙ value-first d v w (a.left ∷ a.right ∷ []) q c.loop-q.first (q * d) refl (h.first ∙ ap (λ k. memory_to v a.left (k * d)) (sym s.1)) in
+    ∙ value-first d v w a.memories q c.loop-q.first (q * d) refl (h.first ∙ ap (λ k. memory_to v (get_or a.memories 0 nan) (k * d)) (sym s.1)) in
     let u : y ≡ f (2 * q + 1) =
     c.pcm_value-in-loop-q.ensures ∙ ap (pcm_value c.loop-q.second) (part-at d q w other _ cut' long' 0 c.requires.1.some ∙ ap (λ k. get_or w k nan) z)
-    ∙ value-second d v w (a.left ∷ a.right ∷ []) q c.loop-q.second (q * d) refl (h.second ∙ ap (λ k. memory_to w a.right (k * d)) (sym s.1)) in
+    ∙ value-second d v w a.memories q c.loop-q.second (q * d) refl (h.second ∙ ap (λ k. memory_to w (get_or a.memories 1 nan) (k * d)) (sym s.1)) in
     let k : 2 * q + 1 + 1 ≡ 2 * (q + 1) = omega arith in
     let first : set c.loop-q.pcm (2 * q) x ≡ front (tab f (2 * q + 1)) a.pcm.now (2 * q + 1) =
     tab-more f nan a.pcm.now c.loop-q.pcm (2 * q) (h.pcm ∙ ap (λ k. front (tab f (2 * k)) a.pcm.now (2 * k)) (sym s.1)) x r (omega (arith, room)) in
@@ -155,8 +159,8 @@ loop-q-preserved c =
       size = (s.0.0.0 ∙ h.size.0, s.0.1.0 ∙ h.size.1);
       rest = (part-rest d q v part _ cut long, part-rest d q w other _ cut' long');
       within = part-within d q v part _ cut long low;
-      first = l.invariant.0 ∙ ap (memory_to v a.left) end;
-      second = l.invariant.1 ∙ ap (memory_to w a.right) end;
+      first = l.invariant.0 ∙ ap (memory_to v (get_or a.memories 0 nan)) end;
+      second = l.invariant.1 ∙ ap (memory_to w (get_or a.memories 1 nan)) end;
       pcm = tab-more f nan a.pcm.now (set c.loop-q.pcm (2 * q) x) (2 * q + 1) first y u room ∙ ap (λ z. front (tab f z) a.pcm.now z) k;
     })
 
@@ -169,13 +173,13 @@ returns c =
     let k = c.loop-q.q-iterator.count in
     let h = c.loop-q.invariant in
     let r = c.requires in
-    let f : ℕ → Float = value_at d (v ∷ w ∷ []) (a.left ∷ a.right ∷ []) in
+    let f : ℕ → Float = value_at d (v ∷ w ∷ []) a.memories in
     let less : length v - k * d < d =
     elim c.in-None.ensures.steps.0 [
       | inl x ↦ omega (arith, ap length h.rest.0, length-drop (k * d) v, x.1.1.0, h.size.0)
       | inr x ↦ omega (arith, ap length h.rest.1, length-drop (k * d) w, x.1.1.0, h.size.1, r.0)
     ] in
     let e = part-end d k (length v) h.within less r.1.even in (
-      ap₂ (λ x y. x ∷ y ∷ []) (h.first ∙ ap (memory_to v a.left) e) (h.second ∙ ap (memory_to w a.right) e),
+      ap₂ (λ x y. x ∷ y ∷ []) (h.first ∙ ap (memory_to v (get_or a.memories 0 nan)) e) (h.second ∙ ap (memory_to w (get_or a.memories 1 nan)) e),
       h.pcm ∙ ap (λ k. front (tab f (2 * k)) a.pcm.now (2 * k)) (part-count d k (length v) h.within less),
     )
