@@ -14,7 +14,7 @@ pub use custom_mode::standard::{FRAME_LEAST, FRAME_MOST};
 // How many steps the longest frame's circle has.
 pub const STEPS: usize = 4 * FRAME_MOST;
 
-// One of the four frame sizes.
+// One of the four frame sizes. By their numbers: a pattern takes no products of `FRAME_LEAST`.
 #[tactic(auto, unfolding(crate::specs::Circle::is_frame_size))]
 pub fn is_frame_size(n: usize) -> bool
     ensures { result ≡ is_frame_size n }

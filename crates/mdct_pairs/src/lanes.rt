@@ -34,7 +34,8 @@ fn add_terms(pairs: &[f64], inputs: &[f64], i: usize, at: &[usize; 4], acc: &mut
     }
 }
 
-// Takes each of four places its step on: two places further for each output.
+// Takes each of four places its step on: two places further for each output. Here and in `around` the loop is the whole function:
+// one for both would say in its contract what a closure answers of each place.
 fn onward(step: usize, at: &mut [usize; 4])
     requires step_bound { step < 8000 }
     requires by_index { (j : ℕ) → j < 4 → get_or at.old j 0 < 16000 }
@@ -90,7 +91,7 @@ impl Tables<'_> {
         let mut at = first_places(t, n);
         let mut acc = [0.0f64; 8];
         let mut products = 0;
-        // by place: a turn reads four places of the inputs
+        // By number: a turn reads four places of the inputs, two and two.
         for h in 0..half {
             add_terms(self.pairs, self.inputs, 4 * h, &at, &mut acc);
             onward(step, &mut at);

@@ -40,7 +40,8 @@ fn sums_by_tables(
     tables.fill_sums(sums)
 }
 
-// The sums, with room for the tables of every frame whose cosines take at most P places and whose inputs at most I.
+// The sums, with room for the tables of every frame whose cosines take at most P places and whose inputs at most I. Two numbers,
+// since no array's length is computed from a const parameter.
 fn sums_within<const P: usize, const I: usize>(spectrum: &[f32], sums: &mut [f64]) -> usize
     requires spectrum_value { is_frame_size (length spectrum.now) ≡ true }
     requires tables { (12 * length spectrum.now ≤ P) × (P ≤ 11520) × (2 * length spectrum.now ≤ I) × (I ≤ 1920) }
@@ -71,7 +72,7 @@ pub fn pair_sums(spectrum: &[f32], sums: &mut [f64]) -> Result<usize, Refused>
     if !pair_takes(n, sums.len()) {
         return Err(Refused);
     }
-    // the shortest frame has tables of its own: clearing the longest's takes half as long as its sums
+    // The shortest frame has tables of its own: clearing the longest's takes half as long as its sums.
     if n == FRAME_LEAST {
         Ok(sums_within::<1_440, 240>(spectrum, sums))
     } else {

@@ -1,7 +1,7 @@
 -- What the functions that call others rest on.
-use mathlib.Core.Path.{◌≡◌, ap, ap₂, ◌∙◌}
+use mathlib.Core.Path.{◌≡◌, ap, ap₂, ◌∙◌, sym}
 use mathlib.Core.List.{List}
-use mathlib.Core.Bool.{true}
+use mathlib.Core.Bool.{Bool, true}
 use Prim.Native.Nat.{ℕ, ◌+◌, ◌*◌, ◌%◌, ◌^◌, ◌≤◌, ◌<◌}
 use native.Mathlib.Omega.{arith}
 use native.Mathlib.Nat.{one-mul}
@@ -64,10 +64,10 @@ fits lm start end d e =
     let r = and-true (leb end 21) _ q.1 in
     record { small = leb-true lm 3 p.0; some = ltb-true start end q.0; last = leb-true end 21 r.0; every = leb-true 1 d r.1 }
 
-pub frame-fits : (lm m : ℕ) → lm ≤ 3 → m ≡ 2 ^ lm → is_frame_size (120 * m) ≡ true
+frame-fits : (lm m : ℕ) → lm ≤ 3 → m ≡ 2 ^ lm → is_frame_size (120 * m) ≡ true
 frame-fits lm m h e = ap (λ z. is_frame_size (120 * z)) e ∙ size-is-frame lm h
 
-pub takes : (lm start end d k n : ℕ) → block_takes lm start end d k n ≡ true → Fits lm start end d × (k ≡ 25) × (n ≡ 120 * 2 ^ lm + 120)
+takes : (lm start end d k n : ℕ) → block_takes lm start end d k n ≡ true → Fits lm start end d × (k ≡ 25) × (n ≡ 120 * 2 ^ lm + 120)
 unfolding block_takes
 takes lm start end d k n e =
     let p = and-true (settings_fit lm start end d) _ e in
@@ -75,7 +75,32 @@ takes lm start end d k n e =
     (fits lm start end d p.0, eqb-true k 25 q.0, eqb-true n _ q.1)
 
 -- what the spectrum asks of them
-pub spectrum-fits : (lm m start end d : ℕ) → Fits lm start end d → m ≡ 2 ^ lm → Spectrum.Fits m start end d
+spectrum-fits : (lm m start end d : ℕ) → Fits lm start end d → m ≡ 2 ^ lm → Spectrum.Fits m start end d
 spectrum-fits lm m start end d f e =
     let p = factor-in lm m f.small e in
     record { small = p.2; some = (let s = f.some in omega arith); last = f.last; every = f.every }
+
+-- what a call that is taken has, at block factor m
+pub record Taken (lm start end downsample energies size m : ℕ) : Type 0 where
+  pub bins : 120 * m ≤ 960
+  pub outputs : 2 * (120 * m) ≤ 1920
+  pub frame : is_frame_size (120 * m) ≡ true
+  pub span : Spectrum.Fits m start end downsample
+  pub all : energies ≡ 25
+  pub long : size ≡ 120 * m + 120
+
+pub taken : (lm start end d k n m : ℕ) (b : Bool) → b ≡ block_takes lm start end d k n → b ≡ true → m ≡ 2 ^ lm → Taken lm start end d k n m
+taken lm start end d k n m b e t q =
+    let f = takes lm start end d k n (sym e ∙ t) in
+    let p = factor-in lm m f.0.small q in
+    record {
+      bins = omega arith;
+      outputs = omega arith;
+      frame = frame-fits lm m f.0.small q;
+      span = spectrum-fits lm m start end d f.0 q;
+      all = f.1;
+      long = f.2 ∙ ap (λ z. 120 * z + 120) (sym q);
+    }
+
+pub taken-small : (lm start end d k n : ℕ) (b : Bool) → b ≡ block_takes lm start end d k n → b ≡ true → lm ≤ 3
+taken-small lm start end d k n b e t = (takes lm start end d k n (sym e ∙ t)).0.small

@@ -58,6 +58,7 @@ pub fn noise_block(
     }
     let m = factor(lm);
     let n = SHORT_BLOCK * m;
+    // The longest frame's, cut to n: there is no heap.
     let mut bins = [0.0f32; FRAME_MOST];
     let mut outputs = [0.0f32; 2 * FRAME_MOST];
     let spectrum = &mut bins[..n];

@@ -22,11 +22,11 @@ pub fn lay(tail: &mut [f32], block: &[f32]) -> Result<(), Refused>
     if size < 2 * OVERLAP || block.len() != size {
         return Err(Refused);
     }
-    let n = size - OVERLAP;
-    // by place: the overlap is read n places on
-    for j in 0..OVERLAP {
-        tail[j] = block[j] + tail[n + j];
+    let (first, rest) = tail.split_at_mut(OVERLAP);
+    let over = &rest[size - 2 * OVERLAP..];
+    for (j, v) in first.iter_mut().enumerate() {
+        *v = block[j] + over[j];
     }
-    tail[OVERLAP..].copy_from_slice(&block[OVERLAP..]);
+    rest.copy_from_slice(&block[OVERLAP..]);
     Ok(())
 }

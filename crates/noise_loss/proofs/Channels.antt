@@ -1,5 +1,5 @@
 -- The noise block of a channel, and a history with each used channel under its own.
-use mathlib.Core.Path.{◌≡◌, ap, ap₂, ◌∙◌, sym}
+use mathlib.Core.Path.{◌≡◌, subst, ap, ap₂, ◌∙◌, sym}
 use mathlib.Core.Bool.{Bool, true, false, cond, ◌&&◌}
 use mathlib.Core.List.{List}
 use Prim.Native.Nat.{ℕ, ◌+◌, ◌*◌, ◌^◌}
@@ -77,6 +77,16 @@ module _ (k : Settings) (good : check_settings k ≡ 0) where
 
     abbrev two : Tail
     two = covered_tail (frame k) blocks.second.samples (tail_at channel h)
+
+    -- the first channel's block, from the energies that it is lent
+    pub first-is : (first : List Float) (r : ℕ) (y : List Float) → first ≡ take 25 e
+        → (r ≡ (channel_block k seed first).seed)
+        × (y ≡ put half (half + overlap) (tail_list (covered_tail (frame k) (channel_block k seed first).samples (tail_at 0 h))) h)
+        → (r ≡ (channel_block k seed (take 25 e)).seed)
+        × (y ≡ put half (half + overlap) (tail_list (covered_tail (frame k) (channel_block k seed (take 25 e)).samples (tail_at 0 h))) h)
+    first-is first r y f p =
+        subst (λ z. (r ≡ (channel_block k seed z).seed)
+        × (y ≡ put half (half + overlap) (tail_list (covered_tail (frame k) (channel_block k seed z).samples (tail_at 0 h))) h)) f p
 
     pub mono-is : stereo k ≡ false → (r : ℕ) (y : List Float) → r ≡ (channel_block k seed (take 25 e)).seed
         → y ≡ put half (half + overlap) (tail_list (covered_tail (frame k) (channel_block k seed (take 25 e)).samples (tail_at 0 h))) h

@@ -5,13 +5,12 @@
 ghost use Rattle.std.specs.Prelude.{◌≡◌, ◌+◌, ◌≤◌, length};
 ghost use Rattle.loops.specs.Part.{put};
 ghost use Rattle.reply.specs.Reply.{replied, reply_if, value_or};
-ghost use Rattle.custom_mode.specs.Mode.{max_bands};
 ghost use Rattle.history.specs.History.{half, overlap, channel, tail_at, tail_list};
 ghost use Rattle.settings.specs.Settings.{frame, check_settings};
 ghost use Rattle.noise_cover.specs.Cover.{covered_tail};
 ghost use Rattle.noise_loss.specs.Loss.{channel_block, noised, after_noise, noise_takes};
 
-use custom_mode::standard::MAX_BANDS;
+use custom_mode::standard::{ENERGIES, MAX_BANDS};
 use history::{CHANNEL, OVERLAP, SAMPLES, WHOLE};
 use noise_block::{BLOCK_MOST, noise_block};
 use noise_cover::lay;
@@ -22,18 +21,26 @@ use settings::checks::settings_pass;
 use sizes::frame_size;
 
 // One channel, whose samples start at `at`, from its 25 energies; the seed after its block.
-fn noise_channel(history: &mut [f32], at: usize, k: Settings, seed: u32, energies: &[f32]) -> u32
-    requires { (check_settings k ≡ 0) × (at + channel ≤ length history.old) × (length energies.now ≡ max_bands) }
+fn noise_channel(
+    history: &mut [f32],
+    at: usize,
+    k: Settings,
+    seed: u32,
+    energies: &[f32; MAX_BANDS],
+) -> u32
+    requires { (check_settings k ≡ 0) × (at + channel ≤ length history.old) }
     ensures { (result ≡ (channel_block k seed energies.now).seed)
         × (history.new ≡ put (at + half) (half + overlap)
         (tail_list (covered_tail (frame k) (channel_block k seed energies.now).samples (tail_at at history.old))) history.old) }
 {
     let n = frame_size(k.lm);
+    // Only here do settings become a span: a `From` would stand in `noise_spectrum`, which names no settings.
     let span = Span {
         start: k.start as usize,
         end: k.end as usize,
         downsample: k.downsample as usize,
     };
+    // The longest block's, cut to n + 120: there is no heap.
     let mut room = [0.0f32; BLOCK_MOST];
     let block = &mut room[..n + OVERLAP];
     let after = noise_block(block, k.lm as usize, span, seed, energies).unwrap();
@@ -48,7 +55,7 @@ pub fn noise_loss(
     k: Settings,
     history: &mut [f32],
     seed: u32,
-    energies: [f32; 50],
+    energies: [f32; ENERGIES],
 ) -> Result<u32, Refused>
     ensures { replied result (noised history.new (value_or seed result))
         ≡ reply_if (noise_takes k (length history.old)) (after_noise k seed energies history.old) (noised history.old seed) }
@@ -56,9 +63,9 @@ pub fn noise_loss(
     if !settings_pass(k) || history.len() != WHOLE {
         return Err(Refused);
     }
-    let one = noise_channel(history, 0, k, seed, &energies[..MAX_BANDS]);
+    let one = noise_channel(history, 0, k, seed, energies.first_chunk().unwrap());
     if k.is_stereo() {
-        Ok(noise_channel(history, CHANNEL, k, one, &energies[MAX_BANDS..]))
+        Ok(noise_channel(history, CHANNEL, k, one, energies.last_chunk().unwrap()))
     } else {
         Ok(one)
     }

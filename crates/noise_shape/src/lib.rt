@@ -26,7 +26,8 @@ fn band_noise(part: &mut [f32], seed: u32) -> u32
 
 // Every band from start to the last is drawn, though the end band may be lower: the seed moves on by all of them.
 // `noise_spectrum` walks over the bands in the same way: one walk for both would be public, and ask of its caller that its
-// closure may be called, where no public function asks anything.
+// closure may be called, where no public function asks anything. Each parameter is one of the call's, and none has another use: a
+// struct of them would be made and taken apart once.
 #[tactic(auto, using(crate::proofs::Calls::ends))]
 fn shape_each(bins: &mut [f32], m: usize, start: usize, seed: u32) -> u32
     requires { (m ≤ 8) × (start ≤ bands) × (m * last_edge ≤ length bins.old) }

@@ -36,7 +36,8 @@ spectrum-is m start end d seed b energies bins x g y ex eg eb h ey =
     (ap (λ z. y ++ z) k ∙ append-nil y ∙ ey ∙ ap (λ z. replicate z zero32) n)
     ∙ ap₂ (λ p q. take p q ++ replicate (length q - p) zero32) eb w
 
-pub seed_is : (m start end d seed s : ℕ) (energies bins : List Float) → s ≡ (noise_shape m start seed bins).seed → s ≡ (spectrum_over m start end d seed energies bins).seed
+pub seed_is : (m start end d seed s : ℕ) (energies bins : List Float) → s ≡ (noise_shape m start seed bins).seed
+    → s ≡ (spectrum_over m start end d seed energies bins).seed
 unfolding spectrum_over
 seed_is m start end d seed s energies bins e = e
 

@@ -1,14 +1,16 @@
 -- What the loops over the bands rest on.
-use mathlib.Core.Path.{◌≡◌, ap, ap₂, ◌∙◌}
+use mathlib.Core.Path.{◌≡◌, refl, ap, ap₂, ◌∙◌}
+use mathlib.Core.Bool.{Bool, true, false, cond, not, ◌&&◌}
 use mathlib.Core.List.{List, ◌++◌, map}
-use Prim.Native.Nat.{ℕ, ◌+◌, ◌*◌, ◌/◌, ◌≤◌, ◌<◌}
+use Prim.Native.Nat.{ℕ, ◌+◌, ◌*◌, ◌/◌, ◌≤◌, ◌<◌, min}
 use native.Mathlib.Omega.{arith}
 use lib.ListN.{take, drop}
 use lib.Ieee.{Float}
-use borrow.Author.Tests.{lt-ltb, le-ltb, eq-eqb, ne_eqb}
+use lib.Dec.{leb, eqb}
+use borrow.Author.Tests.{lt-ltb, le-ltb, ne_eqb, leb-true, leb-false}
 use Rattle.loops.specs.Fold.{fold_range, range-more}
 use Rattle.buffers.specs.Buffers.{times}
-use Rattle.noise_shape.specs.Shape.{lo, width}
+use Rattle.noise_shape.specs.Shape.{lo, lo-in, width}
 use Rattle.noise_spectrum.specs.Spectrum.{bound, bound-in, gain_of_band, gain_turn}
 
 -- one more band times its gain
@@ -27,14 +29,31 @@ module _ (m end d x : ℕ) (e : x ≡ lo m end) (h : end ≤ 21) where
   within : (r : ℕ) → r ≡ bound m end d → (r ≡ bound m end d) × (r ≤ m * 100)
   within r p = (p, omega (arith, bound-in m end d h))
 
-  pub bound-part : (d ≡ 1 → ⊥) → 120 * m / d < x → (120 * m / d ≡ bound m end d) × (120 * m / d ≤ m * 100)
+  bound-part : (d ≡ 1 → ⊥) → 120 * m / d < x → (120 * m / d ≡ bound m end d) × (120 * m / d ≤ m * 100)
   unfolding bound
   bound-part n l = within (120 * m / d) (rw (ne_eqb d 1 n, lt-ltb (120 * m / d) (lo m end) (omega arith)))
 
-  pub bound-far : (d ≡ 1 → ⊥) → x ≤ 120 * m / d → (x ≡ bound m end d) × (x ≤ m * 100)
+  bound-far : x ≤ 120 * m / d → (x ≡ bound m end d) × (x ≤ m * 100)
   unfolding bound
-  bound-far n l = within x (rw (ne_eqb d 1 n, le-ltb (120 * m / d) (lo m end) (omega arith)) e)
+  bound-far l = within x (rw (le-ltb (120 * m / d) (lo m end) (omega arith)) (go (not (eqb d 1))))
+    where
+      go : (b : Bool) → x ≡ cond (b && false) (120 * m / d) (lo m end)
+      go true = e
+      go false = e
 
-  pub bound-one : d ≡ 1 → (x ≡ bound m end d) × (x ≤ m * 100)
-  unfolding bound
-  bound-one n = within x (rw (eq-eqb d 1 n) e)
+  -- without downsampling the rate ends past the edge
+  past : 120 * m / d < x → d ≡ 1 → ⊥
+  past l q = let w : 120 * m / d ≡ 120 * m / 1 = ap (λ z. 120 * m / z) q in omega (arith, lo-in m end h, w)
+
+  pub bound-lower : (r : ℕ) → r ≡ min x (120 * m / d) → (r ≡ bound m end d) × (r ≤ m * 100)
+  bound-lower r q = go (leb x (120 * m / d)) refl
+    where
+      go : (b : Bool) → leb x (120 * m / d) ≡ b → (r ≡ bound m end d) × (r ≤ m * 100)
+      go true t =
+          let l : x ≤ 120 * m / d = leb-true x (120 * m / d) t in
+          let p : r ≡ x = omega arith in
+          let f = bound-far l in (p ∙ f.0, omega arith)
+      go false t =
+          let l : 120 * m / d < x = leb-false x (120 * m / d) t in
+          let p : r ≡ 120 * m / d = omega arith in
+          let f = bound-part (past l) l in (p ∙ f.0, omega arith)

@@ -61,17 +61,12 @@ impl Bands {
         }
     }
 
-    // Where the spectrum ends.
+    // Where the spectrum ends: at the last band's edge, or where the output's rate ends, which without downsampling is past it.
     fn bound(self) -> usize
         ensures { (result ≡ bound self.m self.span.end self.span.downsample) × (result ≤ self.m * last_edge) }
     {
         let edge = self.m * band_edge(self.span.end);
-        let part = SHORT_BLOCK * self.m / self.span.downsample;
-        if self.span.downsample != 1 && part < edge {
-            part
-        } else {
-            edge
-        }
+        edge.min(SHORT_BLOCK * self.m / self.span.downsample)
     }
 }
 
@@ -83,7 +78,8 @@ fn spectrum_takes(m: usize, span: Span, energies: usize, size: usize) -> bool
     m <= FACTOR_MOST && span.fits() && energies == MAX_BANDS && size == SHORT_BLOCK * m
 }
 
-// A channel's spectrum from its 25 energies, over 120 m bins, which come as zeros: answers the seed after all draws.
+// A channel's spectrum from its 25 energies, over 120 m bins, which come as zeros: answers the seed after all draws. A call with
+// another number of energies is refused: so they are a slice, here and in `apply_gains`.
 #[tactic(auto, using(crate::proofs::Calls::takes))]
 pub fn noise_spectrum(
     bins: &mut [f32],

@@ -34,7 +34,7 @@ slice_bounds-block-end c =
 pub unwrap-after-requires : goal.unwrap-after-requires
 unwrap-after-requires c =
     let z = sized c.args.k c.requires.0 _ c.frame_size-n.ensures in
-    block-taken c.args.k c.requires.0 c.args.energies.now _ c.args.seed c.requires.2
+    block-taken c.args.k c.requires.0 c.args.energies.now _ c.args.seed c.told-energies
     (sym (lent-count zero32 (c.frame_size-n.result + 120) 1080 z.2) ∙ ap (λ v. v + 120) z.3) c.noise_block.ensures
 
 pub overflow_sub-from : goal.overflow_sub-from
@@ -64,7 +64,7 @@ returns c =
     let b = c.noise_block in
     let y = b.new.block in
     let l = back-size zero32 (n + 120) 1080 z.2 y b.auto.block in
-    let e = block-drawn a.k c.requires.0 a.energies.now _ a.seed c.requires.2
+    let e = block-drawn a.k c.requires.0 a.energies.now _ a.seed c.told-energies
     (sym (lent-count zero32 (n + 120) 1080 z.2) ∙ ap (λ v. v + 120) z.3) b.ensures c.unwrap-after.ensures in
     let f = laid-is n (take m (drop from h)) y z.0
     (length-take-le m (drop from h) (omega (arith, length-drop from h)) ∙ omega arith) l c.lay.ensures in (
