@@ -72,6 +72,7 @@ pub fn fill_pairs(n: usize, pairs: &mut [f64]) -> Result<(), Refused>
         return Err(Refused);
     }
     let table = Table { c: &cosines(), n };
+    // By number, as the pairs of a quarter.
     for r in 0..6 {
         let first = 2 * (n * r);
         table.quarter(r, &mut pairs[first..first + 2 * n]);

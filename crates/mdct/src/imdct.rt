@@ -13,7 +13,7 @@ use float_narrow::f64_to_f32;
 use reply::Refused;
 use std::array::from_fn;
 
-// i, less than two turns, in a circle of w steps.
+// i, less than two turns, in a circle of w steps. Not `i % w`, which would ask for a w above 0, as no pub fn does.
 pub fn wrapped(i: usize, w: usize) -> usize
     ensures { i < 2 * w → result ≡ i % w }
 {
