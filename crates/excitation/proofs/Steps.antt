@@ -82,31 +82,31 @@ module _ (a : ℕ) (x y : List Float) (s : Agree a x y) where
       (λ i _. ap (mul binary32 (decay_at lag d i)) (s (position_at lag i) (omega (arith, position-ge lag i))))
 
 -- the filter takes the newest samples, and what it leaves of them
-module _ (lpc new mem x : List Float) (l : length lpc ≡ 24) (k : length mem ≡ 24) (m : length new ≡ half) (p : x ≡ new) where
+module _ (lpc newest mem x : List Float) (l : length lpc ≡ 24) (k : length mem ≡ 24) (m : length newest ≡ half) (p : x ≡ newest) where
   pub fir-fits : fir_takes (length lpc) (length mem) (length x) ≡ true
   fir-fits =
       let n : length x ≡ half = ap length p ∙ m in
       simp (eq-eqb (length lpc) (length mem) (omega arith), le-leb (length lpc) 24 (omega arith), le-leb (length x) half (omega arith))
 
   pub whitened_is : (from : ℕ) (y : List Float) (t : Bool)
-      → reply t y ≡ reply_if (fir_takes (length lpc) (length mem) (length x)) (celt_fir_from from lpc mem x) x → y ≡ celt_fir_from from lpc mem new
+      → reply t y ≡ reply_if (fir_takes (length lpc) (length mem) (length x)) (celt_fir_from from lpc mem x) x → y ≡ celt_fir_from from lpc mem newest
   whitened_is from y t e = reply-lent _ _ _ e fir-fits ∙ ap (celt_fir_from from lpc mem) p
 
 -- the cycle, from an excitation worked out only from `from` on
-cycle-is : (m from : ℕ) (new lpc mem exc : List Float) (lag : ℕ) (d : Float) → length new ≡ half → lag ≤ half → from ≡ half - 2 * decay_period lag
-    → exc ≡ celt_fir_from from lpc mem new → d ≡ pitch_decay exc lag
-    → cycle (periodic_copy exc lag d m) (copied_energy new lag m) ≡ pitch_cycle m lpc mem new lag
+cycle-is : (m from : ℕ) (newest lpc mem exc : List Float) (lag : ℕ) (d : Float) → length newest ≡ half → lag ≤ half → from ≡ half - 2 * decay_period lag
+    → exc ≡ celt_fir_from from lpc mem newest → d ≡ pitch_decay exc lag
+    → cycle (periodic_copy exc lag d m) (copied_energy newest lag m) ≡ pitch_cycle m lpc mem newest lag
 unfolding repeated_cycle pitch_cycle
-cycle-is m from new lpc mem exc lag d l h q p1 p2 =
-    let full : List Float = celt_fir lpc mem new in
-    let part : List Float = celt_fir_from from lpc mem new in
-    let a : Agree from part full = from-agrees from lpc mem new (omega arith) in
+cycle-is m from newest lpc mem exc lag d l h q p1 p2 =
+    let full : List Float = celt_fir lpc mem newest in
+    let part : List Float = celt_fir_from from lpc mem newest in
+    let a : Agree from part full = from-agrees from lpc mem newest (omega arith) in
     let u : pitch_decay part lag ≡ pitch_decay full lag = decay_same from part full a lag (omega arith) in
     let v : periodic_copy part lag d m ≡ periodic_copy full lag d m = copy-same from part full a lag d m (omega (arith, period-ge lag h)) in
     let d' : d ≡ pitch_decay full lag = p2 ∙ ap (λ z. pitch_decay z lag) p1 ∙ u in
     let e' : periodic_copy exc lag d m ≡ periodic_copy full lag (pitch_decay full lag) m =
     ap (λ z. periodic_copy z lag d m) p1 ∙ v ∙ ap (λ z. periodic_copy full lag z m) d' in
-    ap (λ z. cycle z (copied_energy new lag m)) e'
+    ap (λ z. cycle z (copied_energy newest lag m)) e'
 
 -- only what is taken need be the same
 reply-same : {A : Type 0} (b : Bool) (x y was : A) → (b ≡ true → x ≡ y) → reply_if b x was ≡ reply_if b y was
@@ -119,12 +119,12 @@ unfolding cycle_takes
 takes_lag n lag e = leb-true lag half (and-true (eqb n half && leb 1 lag) (leb lag half) e).1
 
 -- with the lags that the copy takes
-pub repeat-is : (m from : ℕ) (new lpc mem exc e₀ e : List Float) (lag : ℕ) (d s : Float) (t : Bool) → length new ≡ half → from ≡ half - 2 * decay_period lag
-    → exc ≡ celt_fir_from from lpc mem new → d ≡ pitch_decay exc lag
-    → reply t (cycle e s) ≡ reply_if (cycle_takes (length new) lag) (cycle (periodic_copy exc lag d m) (copied_energy new lag m)) (cycle e₀ zero32)
-    → reply t (cycle e s) ≡ reply_if (cycle_takes (length new) lag) (pitch_cycle m lpc mem new lag) (cycle e₀ zero32)
-repeat-is m from new lpc mem exc e₀ e lag d s t l q p1 p2 r =
-    r ∙ reply-same _ _ _ _ (λ b. cycle-is m from new lpc mem exc lag d l (takes_lag (length new) lag b) q p1 p2)
+pub repeat-is : (m from : ℕ) (newest lpc mem exc e₀ e : List Float) (lag : ℕ) (d s : Float) (t : Bool) → length newest ≡ half → from ≡ half - 2 * decay_period lag
+    → exc ≡ celt_fir_from from lpc mem newest → d ≡ pitch_decay exc lag
+    → reply t (cycle e s) ≡ reply_if (cycle_takes (length newest) lag) (cycle (periodic_copy exc lag d m) (copied_energy newest lag m)) (cycle e₀ zero32)
+    → reply t (cycle e s) ≡ reply_if (cycle_takes (length newest) lag) (pitch_cycle m lpc mem newest lag) (cycle e₀ zero32)
+repeat-is m from newest lpc mem exc e₀ e lag d s t l q p1 p2 r =
+    r ∙ reply-same _ _ _ _ (λ b. cycle-is m from newest lpc mem exc lag d l (takes_lag (length newest) lag b) q p1 p2)
 
 -- what is left of either period after k samples, and what those make
 pub record PeriodsAt (exc : List Float) (p : ℕ) (xs ys : List Float) (k : ℕ) (e1 e2 : Float) : Type 0 where

@@ -14,4 +14,4 @@ length-repeated_cycle m exc lag = length-periodic_copy exc lag _ m
 
 -- m samples, by the coefficients c and the filter's memory
 unfoldable pub pitch_cycle : ℕ → List Float → List Float → List Float → ℕ → Cycle
-pitch_cycle m c mem new lag = cycle (repeated_cycle m (celt_fir c mem new) lag) (copied_energy new lag m)
+pitch_cycle m c mem newest lag = cycle (repeated_cycle m (celt_fir c mem newest) lag) (copied_energy newest lag m)

@@ -21,12 +21,12 @@ pub(crate) fn pitch_decay(exc: &[f32; HALF], lag: usize) -> f32
     ensures { result ≡ pitch_decay exc.now lag }
 {
     let period = decay_period(lag);
-    let new = HALF - period;
-    let old = HALF - 2 * period;
+    let newest = HALF - period;
+    let before = HALF - 2 * period;
     let mut e1 = 1.0f32;
     let mut e2 = 1.0f32;
     // Both periods in one loop, so that their sums run side by side.
-    for (a, b) in exc[new..].iter().zip(&exc[old..new]) {
+    for (a, b) in exc[newest..].iter().zip(&exc[before..newest]) {
         e1 += a * a;
         e2 += b * b;
     }

@@ -19,7 +19,7 @@ mod decay;
 // What a channel is continued from: its newest samples, the lag of their pitch, the predictor fitted to them.
 #[derive(Clone, Copy)]
 pub struct Voice<'a> {
-    pub new: &'a [f32],
+    pub newest: &'a [f32],
     pub lag: usize,
     pub lpc: &'a [f32; ORDER],
 }
@@ -30,11 +30,11 @@ pub struct Voice<'a> {
 #[tactic(auto, using(std::proofs::lemmas::Bool::Decides::nat_tests), unfolding(reply::specs::Reply::reply_if, periodic_copy::specs::Copy::cycle_takes))]
 pub fn repeat_cycle(e: &mut [f32], voice: Voice, mem: &[f32; ORDER]) -> Result<f32, Refused>
     ensures { replied result (cycle e.new (value_or zero32 result))
-        ≡ reply_if (cycle_takes (length voice.entry.new.now) voice.entry.lag)
-        (pitch_cycle (length e.old) voice.entry.lpc.now mem.now voice.entry.new.now voice.entry.lag) (cycle e.old zero32) }
+        ≡ reply_if (cycle_takes (length voice.entry.newest.now) voice.entry.lag)
+        (pitch_cycle (length e.old) voice.entry.lpc.now mem.now voice.entry.newest.now voice.entry.lag) (cycle e.old zero32) }
 {
-    let Voice { new, lag, lpc } = voice;
-    let Ok(mut exc) = <[f32; HALF]>::try_from(new) else {
+    let Voice { newest, lag, lpc } = voice;
+    let Ok(mut exc) = <[f32; HALF]>::try_from(newest) else {
         return Err(Refused);
     };
     let period = decay::decay_period(lag);
@@ -42,5 +42,5 @@ pub fn repeat_cycle(e: &mut [f32], voice: Voice, mem: &[f32; ORDER]) -> Result<f
     let from = HALF - 2 * period;
     celt_fir_from(&mut exc, from, lpc, mem)?;
     let decay = decay::pitch_decay(&exc, lag);
-    periodic_copy(e, &exc, new, lag, decay)
+    periodic_copy(e, &exc, newest, lag, decay)
 }

@@ -49,26 +49,26 @@ unfolding extrapolate_pair_takes
 pair-takes m0 m1 n0 n1 lag0 lag1 p q r = simp (eq-eqb m0 m1 p, q, r)
 
 -- the newest 24 turned round
-pub recent_is : (new x y : List Float) (k : ℕ) → length new ≡ half → k ≡ length new - 1000 → x ≡ take k (drop 1000 new) → y ≡ reverse x → y ≡ recent new
+pub recent_is : (newest x y : List Float) (k : ℕ) → length newest ≡ half → k ≡ length newest - 1000 → x ≡ take k (drop 1000 newest) → y ≡ reverse x → y ≡ recent newest
 unfolding recent
-recent_is new x y k l q p r =
-    let z : List Float = drop 1000 new in
-    let n : length z ≡ order = omega (arith, length-drop 1000 new) in
-    r ∙ ap reverse (p ∙ take_all k z (omega (arith, length-drop 1000 new)))
+recent_is newest x y k l q p r =
+    let z : List Float = drop 1000 newest in
+    let n : length z ≡ order = omega (arith, length-drop 1000 newest) in
+    r ∙ ap reverse (p ∙ take_all k z (omega (arith, length-drop 1000 newest)))
     ∙ sym (tab-list nan (reverse z))
     ∙ ap (tab (λ (i : ℕ). get_or (reverse z) i nan)) (length-reverse z ∙ n)
     ∙ tab-same _ _ order
-    (λ j h. get_or-reverse z j nan (omega (arith, n)) ∙ get_or-drop 1000 new _ nan
-    ∙ (let e : 1000 + (length z - 1 - j) ≡ half - 1 - j = omega (arith, n) in ap (λ w. get_or new w nan) e))
+    (λ j h. get_or-reverse z j nan (omega (arith, n)) ∙ get_or-drop 1000 newest _ nan
+    ∙ (let e : 1000 + (length z - 1 - j) ≡ half - 1 - j = omega (arith, n) in ap (λ w. get_or newest w nan) e))
 
 -- the cycle that was repeated, faded
-pub faded_is : (m : ℕ) (new lpc mem e₀ e1 e2 : List Float) (lag : ℕ) (first t : Bool) (s g : Float) → length new ≡ half → 0 < lag → lag ≤ half
-    → reply t (cycle e1 s) ≡ reply_if (cycle_takes (length new) lag) (pitch_cycle m lpc mem new lag) (cycle e₀ zero32)
+pub faded_is : (m : ℕ) (newest lpc mem e₀ e1 e2 : List Float) (lag : ℕ) (first t : Bool) (s g : Float) → length newest ≡ half → 0 < lag → lag ≤ half
+    → reply t (cycle e1 s) ≡ reply_if (cycle_takes (length newest) lag) (pitch_cycle m lpc mem newest lag) (cycle e₀ zero32)
     → g ≡ fade first → e2 ≡ map (times g) e1
-    → (e2 ≡ faded_cycle m (celt_fir lpc mem new) lag first) × (s ≡ copied_energy new lag m)
+    → (e2 ≡ faded_cycle m (celt_fir lpc mem newest) lag first) × (s ≡ copied_energy newest lag m)
 unfolding pitch_cycle faded_cycle
-faded_is m new lpc mem e₀ e1 e2 lag first t s g l h k e p q =
-    let r : cycle e1 s ≡ pitch_cycle m lpc mem new lag = reply-lent _ _ _ e (cycle-takes (length new) lag l h k) in
+faded_is m newest lpc mem e₀ e1 e2 lag first t s g l h k e p q =
+    let r : cycle e1 s ≡ pitch_cycle m lpc mem newest lag = reply-lent _ _ _ e (cycle-takes (length newest) lag l h k) in
     (q ∙ ap (λ z. map (times z) e1) p ∙ ap (λ z. map (times (fade first)) z.samples) r, ap (λ z. z.energy) r)
 
 -- the cycle is as long as it was asked for
@@ -76,19 +76,19 @@ cycle-length : (m : ℕ) (exc x : List Float) (lag : ℕ) (first : Bool) → x �
 cycle-length m exc x lag first p = ap length p ∙ length-faded_cycle m exc lag first
 
 -- x: the faded cycle; y: through the all-pole filter; z: guarded
-module _ (m : ℕ) (new lpc mem x y z : List Float) (lag : ℕ) (first : Bool) (s : Float) (p : mem ≡ recent new)
-    (q : (x ≡ faded_cycle m (celt_fir lpc mem new) lag first) × (s ≡ copied_energy new lag m)) (g : z ≡ guarded s y) where
-  guarded-is : y ≡ celt_iir lpc mem x → z ≡ extrapolated m new lag first lpc
+module _ (m : ℕ) (newest lpc mem x y z : List Float) (lag : ℕ) (first : Bool) (s : Float) (p : mem ≡ recent newest)
+    (q : (x ≡ faded_cycle m (celt_fir lpc mem newest) lag first) × (s ≡ copied_energy newest lag m)) (g : z ≡ guarded s y) where
+  guarded-is : y ≡ celt_iir lpc mem x → z ≡ extrapolated m newest lag first lpc
   unfolding extrapolated excitation
   guarded-is e =
-      let x' : x ≡ faded_cycle m (celt_fir lpc (recent new) new) lag first = q.0 ∙ ap (λ w. faded_cycle m (celt_fir lpc w new) lag first) p in
-      let y' : y ≡ celt_iir lpc (recent new) (faded_cycle m (celt_fir lpc (recent new) new) lag first) = e ∙ (λ i. celt_iir lpc (p i) (x' i)) in
+      let x' : x ≡ faded_cycle m (celt_fir lpc (recent newest) newest) lag first = q.0 ∙ ap (λ w. faded_cycle m (celt_fir lpc w newest) lag first) p in
+      let y' : y ≡ celt_iir lpc (recent newest) (faded_cycle m (celt_fir lpc (recent newest) newest) lag first) = e ∙ (λ i. celt_iir lpc (p i) (x' i)) in
       g ∙ (λ i. guarded (q.1 i) (y' i))
 
   pub iir-takes : m ≤ longest → iir_takes (length x) ≡ true
-  iir-takes h = le-leb (length x) longest (omega (arith, cycle-length m (celt_fir lpc mem new) x lag first q.0))
+  iir-takes h = le-leb (length x) longest (omega (arith, cycle-length m (celt_fir lpc mem newest) x lag first q.0))
 
-  pub extrapolate_is : (t : Bool) → m ≤ longest → reply t y ≡ reply_if (iir_takes (length x)) (celt_iir lpc mem x) x → z ≡ extrapolated m new lag first lpc
+  pub extrapolate_is : (t : Bool) → m ≤ longest → reply t y ≡ reply_if (iir_takes (length x)) (celt_iir lpc mem x) x → z ≡ extrapolated m newest lag first lpc
   extrapolate_is t h e = guarded-is (reply-lent _ _ _ e (iir-takes h))
 
 -- both channels, filtered side by side

@@ -17,11 +17,11 @@ pub use Rattle.plc_pad.specs.Pad.{order}
 
 -- the newest 24, the most recent first
 unfoldable pub recent : List Float → List Float
-recent new = tab (λ (j : ℕ). get_or new (half - 1 - j) nan) order
+recent newest = tab (λ (j : ℕ). get_or newest (half - 1 - j) nan) order
 
 -- the samples less what the predictor foresees; the filter's memory is the newest end, as the Rust has it
 unfoldable pub excitation : List Float → List Float → List Float
-excitation c new = celt_fir c (recent new) new
+excitation c newest = celt_fir c (recent newest) newest
 
 -- 1 at the first loss, then 0.8
 unfoldable pub fade : Bool → Float
@@ -37,13 +37,13 @@ length-faded_cycle m exc lag first = length-map (repeated_cycle m exc lag) _ ∙
 
 -- m samples after the newest
 unfoldable pub extrapolated : ℕ → List Float → ℕ → Bool → List Float → List Float
-extrapolated m new lag first c =
-    guarded (copied_energy new lag m) (celt_iir c (recent new) (faded_cycle m (excitation c new) lag first))
+extrapolated m newest lag first c =
+    guarded (copied_energy newest lag m) (celt_iir c (recent newest) (faded_cycle m (excitation c newest) lag first))
 
-pub length-extrapolated : (m : ℕ) (new : List Float) (lag : ℕ) (first : Bool) (c : List Float) → length (extrapolated m new lag first c) ≡ m
+pub length-extrapolated : (m : ℕ) (newest : List Float) (lag : ℕ) (first : Bool) (c : List Float) → length (extrapolated m newest lag first c) ≡ m
 unfolding extrapolated
-length-extrapolated m new lag first c =
-    length-guarded _ _ ∙ length-celt_iir c (recent new) (faded_cycle m (excitation c new) lag first) ∙ length-faded_cycle m (excitation c new) lag first
+length-extrapolated m newest lag first c =
+    length-guarded _ _ ∙ length-celt_iir c (recent newest) (faded_cycle m (excitation c newest) lag first) ∙ length-faded_cycle m (excitation c newest) lag first
 
 -- the longest frame and twice the overlap
 abbrev pub longest : ℕ

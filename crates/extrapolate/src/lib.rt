@@ -30,25 +30,25 @@ fn fade_of(first: bool) -> f32
 }
 
 // The newest 24, the most recent first, as the filters' contracts count their memory.
-fn most_recent(new: &[f32]) -> [f32; ORDER]
-    requires { length new.now ≡ half }
-    ensures { result ≡ recent new.now }
+fn most_recent(newest: &[f32]) -> [f32; ORDER]
+    requires { length newest.now ≡ half }
+    ensures { result ≡ recent newest.now }
 {
     let mut mem = [0.0; ORDER];
-    mem.copy_from_slice(&new[HALF - ORDER..]);
+    mem.copy_from_slice(&newest[HALF - ORDER..]);
     mem.reverse();
     mem
 }
 
 // Fills e with the filter's input, the faded cycle; returns the filter's memory, and the energy of the history that the cycle stands for.
 fn filter_input(e: &mut [f32], voice: Voice, first: bool) -> ([f32; ORDER], f32)
-    requires { (length voice.new.now ≡ half) × (0 < voice.lag) × (voice.lag ≤ half) }
-    ensures { (result.0 ≡ recent voice.entry.new.now)
+    requires { (length voice.newest.now ≡ half) × (0 < voice.lag) × (voice.lag ≤ half) }
+    ensures { (result.0 ≡ recent voice.entry.newest.now)
         × (e.new
-        ≡ faded_cycle (length e.old) (celt_fir voice.entry.lpc.now result.0 voice.entry.new.now) voice.entry.lag first)
-        × (result.1 ≡ copied_energy voice.entry.new.now voice.entry.lag (length e.old)) }
+        ≡ faded_cycle (length e.old) (celt_fir voice.entry.lpc.now result.0 voice.entry.newest.now) voice.entry.lag first)
+        × (result.1 ≡ copied_energy voice.entry.newest.now voice.entry.lag (length e.old)) }
 {
-    let mem = most_recent(voice.new);
+    let mem = most_recent(voice.newest);
     let energy = repeat_cycle(e, voice, &mem).unwrap();
     buffers::scale(e, fade_of(first));
     (mem, energy)
@@ -56,16 +56,16 @@ fn filter_input(e: &mut [f32], voice: Voice, first: bool) -> ([f32; ORDER], f32)
 
 #[tactic(auto, using(std::proofs::lemmas::Bool::Decides::nat_tests), unfolding(crate::specs::Extrapolate::extrapolate_takes, periodic_copy::specs::Copy::cycle_takes))]
 fn takes(m: usize, voice: Voice) -> bool
-    ensures { result ≡ extrapolate_takes m (length voice.entry.new.now) voice.entry.lag }
+    ensures { result ≡ extrapolate_takes m (length voice.entry.newest.now) voice.entry.lag }
 {
-    m <= LONGEST && voice.new.len() == HALF && (1..=HALF).contains(&voice.lag)
+    m <= LONGEST && voice.newest.len() == HALF && (1..=HALF).contains(&voice.lag)
 }
 
 // Fills e with what follows the voice. Refused, with e as lent: e above 1,200 samples, newest not of 1,024, a lag of 0 or above 1,024.
 pub fn extrapolate(e: &mut [f32], voice: Voice, first: bool) -> Result<(), Refused>
     ensures { replied result e.new
-        ≡ reply_if (extrapolate_takes (length e.old) (length voice.entry.new.now) voice.entry.lag)
-        (extrapolated (length e.old) voice.entry.new.now voice.entry.lag first voice.entry.lpc.now) e.old }
+        ≡ reply_if (extrapolate_takes (length e.old) (length voice.entry.newest.now) voice.entry.lag)
+        (extrapolated (length e.old) voice.entry.newest.now voice.entry.lag first voice.entry.lpc.now) e.old }
 {
     if !takes(e.len(), voice) {
         return Err(Refused);
@@ -88,9 +88,9 @@ pub fn extrapolate_pair(
 ) -> Result<(), Refused>
     ensures { replied result (channels e0.new e1.new)
         ≡ reply_if
-        (extrapolate_pair_takes (length e0.old) (length e1.old) (length voice0.entry.new.now) (length voice1.entry.new.now) voice0.entry.lag voice1.entry.lag)
-        (channels (extrapolated (length e0.old) voice0.entry.new.now voice0.entry.lag first voice0.entry.lpc.now)
-        (extrapolated (length e1.old) voice1.entry.new.now voice1.entry.lag first voice1.entry.lpc.now))
+        (extrapolate_pair_takes (length e0.old) (length e1.old) (length voice0.entry.newest.now) (length voice1.entry.newest.now) voice0.entry.lag voice1.entry.lag)
+        (channels (extrapolated (length e0.old) voice0.entry.newest.now voice0.entry.lag first voice0.entry.lpc.now)
+        (extrapolated (length e1.old) voice1.entry.newest.now voice1.entry.lag first voice1.entry.lpc.now))
         (channels e0.old e1.old) }
 {
     if e0.len() != e1.len() || !takes(e0.len(), voice0) || !takes(e1.len(), voice1) {

@@ -29,3 +29,8 @@ pub const SECOND_END: usize = CHANNEL + SAMPLES;
 
 // Both channels.
 pub const WHOLE: usize = 2 * CHANNEL;
+
+// The shortest lag of a pitch that is searched for in a channel, and the longest.
+pub const LAG_LEAST: usize = 102;
+
+pub const LAG_MOST: usize = 720;

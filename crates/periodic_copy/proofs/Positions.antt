@@ -32,26 +32,26 @@ abbrev pub copy_at : List Float → ℕ → Float → ℕ → Float
 copy_at exc lag d i = mul binary32 (decay_at lag d i) (get_or exc (position_at lag i) nan)
 
 abbrev pub heard_at : List Float → ℕ → ℕ → Float
-heard_at new lag i = square_at new (position_at lag i)
+heard_at newest lag i = square_at newest (position_at lag i)
 
-module _ (exc new : List Float) (lag : ℕ) (decay : Float) (p i : ℕ) (d : Float) (e : p ≡ position_at lag i) (f : d ≡ decay_at lag decay i) where
+module _ (exc newest : List Float) (lag : ℕ) (decay : Float) (p i : ℕ) (d : Float) (e : p ≡ position_at lag i) (f : d ≡ decay_at lag decay i) where
   -- what is written
   pub copied_sample : mul binary32 d (get_or exc p nan) ≡ copy_at exc lag decay i
   copied_sample = λ k. mul binary32 (f k) (get_or exc (e k) nan)
 
   -- what is added
-  pub heard_more : (s : Float) → s ≡ sum_to binary32 (heard_at new lag) zero32 i
-      → add binary32 s (square_at new p) ≡ sum_to binary32 (heard_at new lag) zero32 (i + 1)
-  heard_more s h = ap (λ z. add binary32 s (square_at new z)) e ∙ sum_more binary32 (heard_at new lag) _ _ _ h
+  pub heard_more : (s : Float) → s ≡ sum_to binary32 (heard_at newest lag) zero32 i
+      → add binary32 s (square_at newest p) ≡ sum_to binary32 (heard_at newest lag) zero32 (i + 1)
+  heard_more s h = ap (λ z. add binary32 s (square_at newest z)) e ∙ sum_more binary32 (heard_at newest lag) _ _ _ h
 
 -- all samples, and all of the energy
-pub whole_cycle : (exc new e e₀ : List Float) (lag n : ℕ) (decay s : Float) → e ≡ front (tab (copy_at exc lag decay) n) e₀ n
-    → s ≡ sum_to binary32 (heard_at new lag) zero32 n → length e₀ ≡ n
-    → cycle e s ≡ cycle (periodic_copy exc lag decay (length e₀)) (copied_energy new lag (length e₀))
+pub whole_cycle : (exc newest e e₀ : List Float) (lag n : ℕ) (decay s : Float) → e ≡ front (tab (copy_at exc lag decay) n) e₀ n
+    → s ≡ sum_to binary32 (heard_at newest lag) zero32 n → length e₀ ≡ n
+    → cycle e s ≡ cycle (periodic_copy exc lag decay (length e₀)) (copied_energy newest lag (length e₀))
 unfolding periodic_copy copied_energy
-whole_cycle exc new e e₀ lag n decay s p q l =
+whole_cycle exc newest e e₀ lag n decay s p q l =
     let a : e ≡ tab (copy_at exc lag decay) (length e₀) = tab-all _ nan e₀ e n p l in
-    let b : s ≡ sum_to binary32 (heard_at new lag) zero32 (length e₀) = q ∙ ap (sum_to binary32 (heard_at new lag) zero32) (sym l) in
+    let b : s ≡ sum_to binary32 (heard_at newest lag) zero32 (length e₀) = q ∙ ap (sum_to binary32 (heard_at newest lag) zero32) (sym l) in
     λ k. cycle (a k) (b k)
 
 pub cycle-takes : (n lag : ℕ) → n ≡ half → 0 < lag → lag ≤ half → cycle_takes n lag ≡ true

@@ -48,7 +48,7 @@ periodic_copy exc lag d n = tab (λ (i : ℕ). mul binary32 (decay_at lag d i) (
 
 -- s1: the energy of the samples at the copied positions
 unfoldable pub copied_energy : List Float → ℕ → ℕ → Float
-copied_energy new lag n = sum_to binary32 (λ (i : ℕ). square_at new (position_at lag i)) zero32 n
+copied_energy newest lag n = sum_to binary32 (λ (i : ℕ). square_at newest (position_at lag i)) zero32 n
 
 pub length-periodic_copy : (exc : List Float) (lag : ℕ) (d : Float) (n : ℕ) → length (periodic_copy exc lag d n) ≡ n
 unfolding periodic_copy

@@ -37,23 +37,23 @@ impl Place {
     }
 }
 
-// Fills e with the last cycle of exc, repeated, the decay squared at each wrap; returns the energy of new at the same positions.
-// Refused, with e as lent: new not of 1,024 samples, a lag of 0 or above 1,024.
+// Fills e with the last cycle of exc, repeated, the decay squared at each wrap; returns the energy of newest at the same positions.
+// Refused, with e as lent: newest not of 1,024 samples, a lag of 0 or above 1,024.
 // Samples and lag apart, since a copy goes by no predictor.
 #[tactic(auto, using(std::proofs::lemmas::Bool::Decides::nat_tests), unfolding(reply::specs::Reply::reply_if, crate::specs::Copy::cycle_takes))]
 pub fn periodic_copy(
     e: &mut [f32],
     exc: &[f32; HALF],
-    new: &[f32],
+    newest: &[f32],
     lag: usize,
     decay: f32,
 ) -> Result<f32, Refused>
     ensures { replied result (cycle e.new (value_or zero32 result))
-        ≡ reply_if (cycle_takes (length new.now) lag)
-        (cycle (periodic_copy exc.now lag decay (length e.old)) (copied_energy new.now lag (length e.old)))
+        ≡ reply_if (cycle_takes (length newest.now) lag)
+        (cycle (periodic_copy exc.now lag decay (length e.old)) (copied_energy newest.now lag (length e.old)))
         (cycle e.old zero32) }
 {
-    if new.len() != HALF || lag < 1 || HALF < lag {
+    if newest.len() != HALF || lag < 1 || HALF < lag {
         return Err(Refused);
     }
     let mut place = Place {
@@ -63,7 +63,7 @@ pub fn periodic_copy(
     let mut energy = 0.0;
     for sample in e.iter_mut() {
         *sample = place.decay * exc[place.at];
-        let heard = new[place.at];
+        let heard = newest[place.at];
         energy += heard * heard;
         place = place.next(lag);
     }

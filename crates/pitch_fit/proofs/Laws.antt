@@ -20,15 +20,15 @@ use Rattle.pitch_fit.specs.Fit.{order, pitch_fit, fit_takes}
 
 -- the correlations, 25, are taken by the window, and what it leaves of them by the predictor
 module _
-    (new x w ac b lpc y : List Float)
+    (newest x w ac b lpc y : List Float)
     (s t : Bool)
     (l : length lpc ≡ order)
-    (p : x ≡ new)
+    (p : x ≡ newest)
     (q : w ≡ window)
     (r : ac ≡ celt_autocorr (windowed_ends x w) 25)
     (e : reply s b ≡ reply_if (leb (length ac) 65536) (lag_window ac) ac)
     (g : reply t y ≡ reply_if (eqb (length b) (length lpc + 1)) (celt_lpc b (length lpc)) lpc) where
-  pub fit_is : (n : length new ≡ half) → reply t y ≡ reply_if (fit_takes (length new) (length lpc)) (pitch_fit new) lpc
+  pub fit_is : (n : length newest ≡ half) → reply t y ≡ reply_if (fit_takes (length newest) (length lpc)) (pitch_fit newest) lpc
   unfolding pitch_fit fit_takes
   fit_is n =
       let k : length ac ≡ 25 = ap length r ∙ length-celt_autocorr _ 25 in
@@ -37,5 +37,5 @@ module _
       let u : eqb (length b) (length lpc + 1) ≡ true = eq-eqb (length b) (length lpc + 1) (omega arith) in
       let y' : y ≡ celt_lpc b (length lpc) = reply-lent _ _ _ g u in
       ap (λ z. reply z y) (reply-taken _ _ _ g ∙ u)
-      ∙ reply-yes _ _ _ (and_both (eqb (length new) half) _ (eq-eqb _ _ n) (eq-eqb _ _ l))
+      ∙ reply-yes _ _ _ (and_both (eqb (length newest) half) _ (eq-eqb _ _ n) (eq-eqb _ _ l))
       (y' ∙ (λ i. celt_lpc (b' i) (l i)) ∙ ap (λ v. celt_lpc (lag_window v) order) (r ∙ (λ i. celt_autocorr (windowed_ends (p i) (q i)) 25)))

@@ -10,11 +10,11 @@ pub use Rattle.plc_pad.specs.Pad.{order}
 
 -- a channel's coefficients, from its newest 1,024 samples
 unfoldable pub pitch_fit : List Float → List Float
-pitch_fit new = celt_lpc (lag_window (celt_autocorr (windowed_ends new window) 25)) order
+pitch_fit newest = celt_lpc (lag_window (celt_autocorr (windowed_ends newest window) 25)) order
 
-pub length-pitch_fit : (new : List Float) → length (pitch_fit new) ≡ order
+pub length-pitch_fit : (newest : List Float) → length (pitch_fit newest) ≡ order
 unfolding pitch_fit
-length-pitch_fit new = length-celt_lpc _ order
+length-pitch_fit newest = length-celt_lpc _ order
 
 -- how many samples, how many coefficients
 unfoldable pub fit_takes : ℕ → ℕ → Bool

@@ -15,17 +15,17 @@ use reply::Refused;
 
 // 24 coefficients from a channel's newest 1,024 samples; other lengths are refused, and lpc stays.
 #[tactic(auto, using(std::proofs::lemmas::Bool::Decides::nat_tests), unfolding(reply::specs::Reply::reply_if, crate::specs::Fit::fit_takes))]
-pub fn pitch_fit(new: &[f32], lpc: &mut [f32]) -> Result<(), Refused>
+pub fn pitch_fit(newest: &[f32], lpc: &mut [f32]) -> Result<(), Refused>
     ensures { replied result lpc.new
-        ≡ reply_if (fit_takes (length new.now) (length lpc.old)) (pitch_fit new.now) lpc.old }
+        ≡ reply_if (fit_takes (length newest.now) (length lpc.old)) (pitch_fit newest.now) lpc.old }
 {
     if lpc.len() != ORDER {
         return Err(Refused);
     }
-    let Ok(new) = <&[f32; HALF]>::try_from(new) else {
+    let Ok(newest) = <&[f32; HALF]>::try_from(newest) else {
         return Err(Refused);
     };
-    let mut ac = celt_autocorr_windowed(new, &celt_window::window());
+    let mut ac = celt_autocorr_windowed(newest, &celt_window::window());
     lag_window(&mut ac)?;
     celt_lpc(lpc, &ac)
 }

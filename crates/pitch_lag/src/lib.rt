@@ -7,17 +7,14 @@ ghost use Rattle.reply.specs.Reply.{ok_if};
 ghost use Rattle.history.specs.History.{whole};
 ghost use Rattle.pitch_lag.specs.Lag.{low_passed, lag_of};
 
-use history::{CHANNEL, HALF, SAMPLES, SECOND_END, WHOLE};
+use history::{CHANNEL, HALF, LAG_MOST, SAMPLES, SECOND_END, WHOLE};
 use plc_downsample::pitch_downsample;
 use plc_search::pitch_search;
 use reply::Refused;
 
-// The longest lag: the same as state's, neither crate below the other.
-const LAG_MOST: usize = 720;
-
 // What the search reads: the used channels' 2,048 samples at half the rate.
-fn low_pass(two: bool, history: &[f32]) -> [f32; HALF]
-    requires { length history.now ≡ whole }
+// Here and below `two` answers a question: a bool, since a caller has it as a comparison, `channels == 2`.
+fn low_pass(two: bool, history: &[f32; WHOLE]) -> [f32; HALF]
     ensures { result ≡ low_passed two history.now }
 {
     let mut low = [0.0f32; HALF];
@@ -27,13 +24,12 @@ fn low_pass(two: bool, history: &[f32]) -> [f32; HALF]
 }
 
 // The lag of a history, of two channels or one. Refused: a history not of 4,336 samples.
-// `two` answers a question: a bool, since a caller has it as a comparison, `channels == 2`.
 pub fn find_lag(two: bool, history: &[f32]) -> Result<u32, Refused>
     ensures { result ≡ ok_if (eqb (length history.now) whole) (lag_of two history.now) }
 {
-    if history.len() != WHOLE {
+    let Ok(history) = <&[f32; WHOLE]>::try_from(history) else {
         return Err(Refused);
-    }
+    };
     let low = low_pass(two, history);
     Ok((LAG_MOST - pitch_search(&low)) as u32)
 }

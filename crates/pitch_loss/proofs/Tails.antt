@@ -8,8 +8,8 @@ use lib.Dec.{eqb, leb}
 use lib.ListN.{length, take, drop, length-drop}
 use lib.Seq.{length-take-le, take_all, take_at}
 use lib.Ieee.{Float}
-use borrow.Author.Tests.{eqb-true, leb-true, eq-eqb, le-leb}
-use Rattle.loops.specs.Logic.{and-true, cond_either}
+use borrow.Author.Tests.{eqb-true, leb-true, eq-eqb, ne_eqb, le-leb}
+use Rattle.loops.specs.Logic.{and-true, and_first, and_second, cond_either}
 use Rattle.loops.specs.Part.{put}
 use Rattle.reply.specs.Reply.{reply, reply_if, reply-lent}
 use Rattle.history.specs.History.{half, overlap, channel, whole, Tail, Tails, tail_at, tails, with_tails, tail_list, tail_of}
@@ -186,13 +186,22 @@ module _ (n lag : ℕ) (first : Bool) (f : Filter) (h c : List Float) (lh : leng
 
 -- ---- by the settings
 
--- of two channels or one, a frame long
-pub used-is : (k : Settings) (two : Bool) (n lag : ℕ) (first : Bool) (f : Filter) (h h' c : List Float) → check_settings k ≡ 0 → stereo k ≡ two → n ≡ 120 * block_factor k.lm
-    → h' ≡ with_tails h (pitch_tails two n lag first c f (tails h)) → h' ≡ with_tails h (pitch_tails (stereo k) (frame k) lag first c f (tails h))
-used-is k two n lag first f h h' c good s p e = e ∙ (λ i. with_tails h (pitch_tails (sym s i) (frame_is k good n p i) lag first c f (tails h)))
+-- of two channels or one, a frame long; v: the history, lent as an array
+pub used-is : (k : Settings) (two : Bool) (n lag : ℕ) (first : Bool) (f : Filter) (h v h' c : List Float) → check_settings k ≡ 0 → stereo k ≡ two
+    → n ≡ 120 * block_factor k.lm → v ≡ h → h' ≡ with_tails v (pitch_tails two n lag first c f (tails v))
+    → h' ≡ with_tails h (pitch_tails (stereo k) (frame k) lag first c f (tails h))
+used-is k two n lag first f h v h' c good s p q e = e ∙ (λ i. with_tails (q i) (pitch_tails (sym s i) (frame_is k good n p i) lag first c f (tails (q i))))
 
 pub frame-fits : (k : Settings) (n : ℕ) → check_settings k ≡ 0 → n ≡ 120 * block_factor k.lm → n ≤ longest_frame
 frame-fits k n good p = omega (arith, frame_is k good n p, frame-high k good)
+
+-- a history of that size is taken as the rest is, and of no other
+pub takes-size : {b : Bool} (k : Settings) (size lag : ℕ) (f : Filter) → size ≡ History.whole → pitch_takes k History.whole lag f ≡ b → pitch_takes k size lag f ≡ b
+takes-size k size lag f h e = ap (λ z. pitch_takes k z lag f) h ∙ e
+
+pub refuses-size : (k : Settings) (size lag : ℕ) (f : Filter) → (size ≡ History.whole → ⊥) → pitch_takes k size lag f ≡ false
+unfolding pitch_takes
+refuses-size k size lag f h = and_second (eqb (check_settings k) 0) _ (and_first (eqb size History.whole) _ (ne_eqb size History.whole h))
 
 -- what an accepted call may go by
 pub record Fits (k : Settings) (size lag : ℕ) (f : Filter) : Type 0 where

@@ -1,7 +1,7 @@
 // The used channels of a whole history: each continued, and what follows taken in.
-ghost use Rattle.std.specs.Prelude.{◌≡◌, true, false, ◌+◌, ◌≤◌, length, take, drop};
+ghost use Rattle.std.specs.Prelude.{◌≡◌, true, false, ◌+◌, ◌≤◌, take, drop};
 ghost use Rattle.loops.specs.Part.{put};
-ghost use Rattle.history.specs.History.{half, overlap, channel, whole, tails, with_tails, tail_list, tail_of};
+ghost use Rattle.history.specs.History.{half, overlap, channel, tails, with_tails, tail_list, tail_of};
 ghost use Rattle.post_filter.specs.Limits.{filter_fits};
 ghost use Rattle.state.specs.Refusal.{lag_least, lag_most};
 ghost use Rattle.extrapolate.specs.Extrapolate.{order, extrapolated};
@@ -11,12 +11,12 @@ ghost use Rattle.pitch_loss.specs.PitchLoss.{pitch_tails};
 use crate::Pitch;
 use excitation::Voice;
 use extrapolate::{LONGEST, extrapolate, extrapolate_pair};
-use history::{EXTRA, HALF, SAMPLES, SECOND_END, SECOND_HALF, TAIL};
+use history::{EXTRA, HALF, SAMPLES, SECOND_END, SECOND_HALF, TAIL, WHOLE};
 use plc_pad::ORDER;
 use take_in::take_in;
 
 // The 24 coefficients from `from` on.
-fn coefficients(predictor: [f32; 48], from: usize) -> [f32; ORDER]
+fn coefficients(predictor: [f32; 2 * ORDER], from: usize) -> [f32; ORDER]
     requires { from ≤ order }
     ensures { result ≡ take order (drop from predictor) }
 {
@@ -36,8 +36,7 @@ pub(crate) struct Loss {
 
 impl Loss {
     // What follows each channel, their filters side by side: n samples and 240 more, to the front of e0 and of e1.
-    fn continue_both(self, e0: &mut [f32; LONGEST], e1: &mut [f32; LONGEST], h: &[f32])
-        requires { length h.now ≡ whole }
+    fn continue_both(self, e0: &mut [f32; LONGEST], e1: &mut [f32; LONGEST], h: &[f32; WHOLE])
         ensures { (take (self.n + extra) e0.new
             ≡ extrapolated (self.n + extra) (tails h.now).first.new self.pitch.lag self.pitch.first (take order self.pitch.predictor))
             × (take (self.n + extra) e1.new
@@ -49,12 +48,12 @@ impl Loss {
             &mut e0[..m],
             &mut e1[..m],
             Voice {
-                new: &h[HALF..SAMPLES],
+                newest: &h[HALF..SAMPLES],
                 lag,
                 lpc: &coefficients(self.pitch.predictor, 0),
             },
             Voice {
-                new: &h[SECOND_HALF..SECOND_END],
+                newest: &h[SECOND_HALF..SECOND_END],
                 lag,
                 lpc: &coefficients(self.pitch.predictor, ORDER),
             },
@@ -64,8 +63,8 @@ impl Loss {
     }
 
     // The front of e comes in at the end of the channel whose newest 1,024 begin at `at`.
-    fn take_at(self, h: &mut [f32], at: usize, e: &[f32; LONGEST])
-        requires { (length h.old ≡ whole) × (at ≤ channel + half) }
+    fn take_at(self, h: &mut [f32; WHOLE], at: usize, e: &[f32; LONGEST])
+        requires { at ≤ channel + half }
         ensures { h.new
             ≡ put at (half + overlap)
             (tail_list (tail_after self.n (take (self.n + extra) e.now) self.pitch.filter (tail_of (take (half + overlap) (drop at h.old)))))
@@ -81,8 +80,7 @@ impl Loss {
     }
 
     // Mono runs the single filter, stereo the pair. Apart: one function would ask twice which it is, and clear a second buffer for mono.
-    pub(crate) fn conceal_mono(self, history: &mut [f32])
-        requires { length history.old ≡ whole }
+    pub(crate) fn conceal_mono(self, history: &mut [f32; WHOLE])
         ensures { history.new
             ≡ with_tails history.old
             (pitch_tails false self.n self.pitch.lag self.pitch.first self.pitch.predictor self.pitch.filter (tails history.old)) }
@@ -91,7 +89,7 @@ impl Loss {
         extrapolate(
             &mut e[..self.n + EXTRA],
             Voice {
-                new: &history[HALF..SAMPLES],
+                newest: &history[HALF..SAMPLES],
                 lag: self.pitch.lag as usize,
                 lpc: &coefficients(self.pitch.predictor, 0),
             },
@@ -101,8 +99,7 @@ impl Loss {
         self.take_at(history, HALF, &e);
     }
 
-    pub(crate) fn conceal_stereo(self, history: &mut [f32])
-        requires { length history.old ≡ whole }
+    pub(crate) fn conceal_stereo(self, history: &mut [f32; WHOLE])
         ensures { history.new
             ≡ with_tails history.old
             (pitch_tails true self.n self.pitch.lag self.pitch.first self.pitch.predictor self.pitch.filter (tails history.old)) }

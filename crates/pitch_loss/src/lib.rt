@@ -4,12 +4,13 @@
 
 ghost use Rattle.std.specs.Prelude.{◌≡◌, length};
 ghost use Rattle.reply.specs.Reply.{replied, reply_if};
-ghost use Rattle.history.specs.History.{tails, with_tails};
+ghost use Rattle.history.specs.History.{whole, tails, with_tails};
 ghost use Rattle.settings.specs.Settings.{frame, stereo};
 ghost use Rattle.pitch_loss.specs.PitchLoss.{pitch_tails, pitch_takes};
 
 use channels::Loss;
 use history::WHOLE;
+use plc_pad::ORDER;
 use post_filter::{Filter, filter_fits};
 use reply::Refused;
 use settings::Settings;
@@ -23,25 +24,23 @@ mod channels;
 #[derive(Clone, Copy)]
 pub struct Pitch {
     pub lag: u32,
-    // Whether the loss before it was none.
+    // Whether the loss before it was none: a bool, since a caller has it as a comparison, `loss_count == 0`.
     pub first: bool,
     // 24 coefficients of either channel.
-    pub predictor: [f32; 48],
+    pub predictor: [f32; 2 * ORDER],
     pub filter: Filter,
 }
 
 #[tactic(auto, using(std::proofs::lemmas::Bool::Decides::nat_tests), unfolding(crate::specs::PitchLoss::pitch_takes))]
-fn takes(k: Settings, size: usize, pitch: Pitch) -> bool
-    ensures { result ≡ pitch_takes k size pitch.lag pitch.filter }
+fn takes(k: Settings, pitch: Pitch) -> bool
+    ensures { result ≡ pitch_takes k whole pitch.lag pitch.filter }
 {
-    settings_pass(k)
-        && size == WHOLE
-        && (LAG_LEAST..=LAG_MOST).contains(&pitch.lag)
-        && filter_fits(pitch.filter)
+    settings_pass(k) && (LAG_LEAST..=LAG_MOST).contains(&pitch.lag) && filter_fits(pitch.filter)
 }
 
 // Conceals a lost frame of each used channel.
-// Refused, with the history as lent: settings that do not pass, a history not of 4,336 samples, a lag outside 102 to 720, a filter outside its limits.
+// Refused, with the history as lent: settings that do not pass, a history not of 4,336 samples, a lag outside 102 to 720,
+// a filter outside its limits.
 pub fn pitch_loss(k: Settings, history: &mut [f32], pitch: Pitch) -> Result<(), Refused>
     ensures { replied result history.new
         ≡ reply_if (pitch_takes k (length history.old) pitch.lag pitch.filter)
@@ -49,7 +48,10 @@ pub fn pitch_loss(k: Settings, history: &mut [f32], pitch: Pitch) -> Result<(), 
         (pitch_tails (stereo k) (frame k) pitch.lag pitch.first pitch.predictor pitch.filter (tails history.old)))
         history.old }
 {
-    if !takes(k, history.len(), pitch) {
+    let Some(history) = history.as_mut_array::<WHOLE>() else {
+        return Err(Refused);
+    };
+    if !takes(k, pitch) {
         return Err(Refused);
     }
     let loss = Loss {

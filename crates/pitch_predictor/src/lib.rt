@@ -14,7 +14,11 @@ use reply::Refused;
 
 // The used channels' coefficients fitted anew; an unused channel's are carried. Refused: a history not of 4,336 samples.
 // `two` answers a question: a bool, since a caller has it as a comparison, `channels == 2`.
-pub fn fit_predictor(two: bool, history: &[f32], predictor: [f32; 48]) -> Result<[f32; 48], Refused>
+pub fn fit_predictor(
+    two: bool,
+    history: &[f32],
+    predictor: [f32; 2 * ORDER],
+) -> Result<[f32; 2 * ORDER], Refused>
     ensures { result ≡ ok_if (eqb (length history.now) whole) (fitted_to two predictor (tails history.now)) }
 {
     if history.len() != WHOLE {

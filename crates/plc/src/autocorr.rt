@@ -3,8 +3,7 @@ ghost use Rattle.std.specs.Prelude.{◌≡◌, ◌+◌, ◌-◌, ◌≤◌, ◌<
 ghost use Rattle.plc_window.specs.Window.{windowed_ends};
 ghost use Rattle.plc.specs.Autocorr.{celt_autocorr, lag_row};
 
-// The samples that are correlated.
-pub const SAMPLES: usize = plc_window::SAMPLES;
+use history::{HALF, OVERLAP};
 
 // What the correlation at lag 0 rises by.
 const NOISE_FLOOR: f32 = 10.0;
@@ -42,7 +41,7 @@ fn other_terms(x: &[f32], row: &mut [f32])
 }
 
 // The correlations at the lags below LAGS, the noise floor on the first.
-fn correlations<const LAGS: usize>(x: &[f32; SAMPLES]) -> [f32; LAGS]
+fn correlations<const LAGS: usize>(x: &[f32; HALF]) -> [f32; LAGS]
     requires { (0 < LAGS) × (LAGS ≤ 1024) }
     ensures { result ≡ celt_autocorr x.now LAGS }
 {
@@ -54,15 +53,15 @@ fn correlations<const LAGS: usize>(x: &[f32; SAMPLES]) -> [f32; LAGS]
     row
 }
 
-// The correlations at the lags 0 to 4.
-pub fn celt_autocorr(x: &[f32; SAMPLES]) -> [f32; 5]
+// The correlations at the lags 0 to 4. A size each, here and below: of any number of lags the function would need a `requires`.
+pub fn celt_autocorr(x: &[f32; HALF]) -> [f32; 5]
     ensures { result ≡ celt_autocorr x.now 5 }
 {
     correlations(x)
 }
 
 // The correlations at the lags 0 to 24, the window on both ends.
-pub fn celt_autocorr_windowed(x: &[f32; SAMPLES], window: &[f32; 120]) -> [f32; 25]
+pub fn celt_autocorr_windowed(x: &[f32; HALF], window: &[f32; OVERLAP]) -> [f32; 25]
     ensures { result ≡ celt_autocorr (windowed_ends x.now window.now) 25 }
 {
     correlations(&plc_window::windowed_ends(x, window))

@@ -22,7 +22,7 @@ unfoldable pub next_energy : List Float → ℕ → Float → ℕ → Float
 next_energy y len syy i =
     max_of (add binary32 syy (sub binary32 (square_at y (i + len)) (square_at y i))) one32
 
--- its squared correlation is the greater part of its energy
+-- c's squared correlation is a greater part of its energy than b's is of its own
 unfoldable pub beats : Candidate → Candidate → Bool
 beats c b = lt (mul binary32 b.num c.den) (mul binary32 c.num b.den)
 

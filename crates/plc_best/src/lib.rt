@@ -14,7 +14,7 @@ pub struct Candidate {
 }
 
 impl Candidate {
-    // Whether its correlation is the greater part of its energy.
+    // Whether its squared correlation is a greater part of its energy than the other's is of its own.
     #[tactic(auto, unfolding(crate::specs::Best::beats))]
     fn beats(self, other: Candidate) -> bool
         ensures { result ≡ beats self other }

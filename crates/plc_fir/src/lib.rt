@@ -11,8 +11,8 @@ ghost use Rattle.plc_pad.specs.Pad.{Remembers, Holds, taps_row};
 use plc_pad::{NEWEST, ORDER};
 use reply::Refused;
 
-// The samples that are filtered at most: a limit of its own, whatever a history holds.
-const LONGEST: usize = 1024;
+// The samples that are filtered at most.
+const LONGEST: usize = history::HALF;
 
 // The samples of buf behind their memory.
 fn padded(buf: &[f32], mem: &[f32]) -> [f32; ORDER + LONGEST]

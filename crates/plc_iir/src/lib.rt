@@ -6,11 +6,12 @@ ghost use Rattle.std.specs.Prelude.{◌≡◌, length};
 ghost use Rattle.reply.specs.Reply.{replied, reply_if};
 ghost use Rattle.plc_iir.specs.Iir.{celt_iir, iir_takes};
 
+use history::{EXTRA, LONGEST_FRAME};
 use plc_pad::{ORDER, less_taps};
 use reply::Refused;
 
-// The samples that are filtered at most.
-pub const LONGEST: usize = 1200;
+// The samples that are filtered at most: a frame, and what is extrapolated beyond it.
+pub const LONGEST: usize = LONGEST_FRAME + EXTRA;
 
 // Filters buf; mem has the outputs before its start, the most recent first. More than 1,200 samples are refused, and buf stays.
 pub fn celt_iir_inplace(

@@ -7,20 +7,18 @@ ghost use Rattle.loops.specs.Front.{tab};
 ghost use Rattle.plc_search.specs.Search.{every_second, fine_at, coarse_best, interpolated, refined, pitch_search};
 ghost use Rattle.plc_search.specs.Rows.{near_row, near_at};
 
+use history::{HALF, LAG_LEAST, LAG_MOST};
 use plc_best::find_best_pitch;
 use plc_correlate::correlate;
 
-// At half rate: where the newest samples start.
-const LATER: usize = 360;
+// At half rate: where the newest samples start, the longest lag behind the first place.
+const LATER: usize = LAG_MOST / 2;
 
 // How many of these are compared.
-const COMPARED: usize = 664;
+const COMPARED: usize = HALF - LATER;
 
-// All samples at half rate.
-const SAMPLES: usize = LATER + COMPARED;
-
-// At half rate: how many places they are compared with.
-const PLACES: usize = 310;
+// At half rate: how many places they are compared with, one for each second lag.
+const PLACES: usize = (LAG_MOST - LAG_LEAST) / 2 + 1;
 
 // The last place: like the first it has one neighbour, and stays.
 const LAST: usize = PLACES - 1;
@@ -65,7 +63,7 @@ struct Near {
 }
 
 impl Near {
-    fn around(y: &[f32; SAMPLES], b: usize) -> Near
+    fn around(y: &[f32; HALF], b: usize) -> Near
         requires { b ≤ 154 }
         ensures place { result.b ≡ b }
         ensures values { result.row ≡ near_row y.now b }
@@ -91,7 +89,7 @@ impl Near {
 }
 
 // The finer correlations around twice b0 and twice b1; 0 elsewhere.
-fn fine_row(y: &[f32; SAMPLES], b0: usize, b1: usize) -> [f32; PLACES]
+fn fine_row(y: &[f32; HALF], b0: usize, b1: usize) -> [f32; PLACES]
     requires { (b0 ≤ 154) × (b1 ≤ 154) }
     ensures { result ≡ tab (fine_at y.now b0 b1) 310 }
 {
@@ -105,7 +103,7 @@ fn fine_row(y: &[f32; SAMPLES], b0: usize, b1: usize) -> [f32; PLACES]
 }
 
 // The two best places at quarter rate.
-fn coarse_best(y: &[f32; SAMPLES]) -> (usize, usize)
+fn coarse_best(y: &[f32; HALF]) -> (usize, usize)
     ensures { result ≡ ((coarse_best y.now).first.at, (coarse_best y.now).second.at) }
 {
     let mut x4 = [0.0f32; COMPARED4];
@@ -146,7 +144,7 @@ fn refine(xcorr: &[f32; PLACES], p: usize) -> usize
 }
 
 // The offset of the best lag, from 0 to 618: the lag is 720 less it.
-pub fn pitch_search(y: &[f32; SAMPLES]) -> usize
+pub fn pitch_search(y: &[f32; HALF]) -> usize
     ensures { result ≡ pitch_search y.now }
 {
     let (b0, b1) = coarse_best(y);

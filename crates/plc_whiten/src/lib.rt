@@ -6,7 +6,8 @@ ghost use Rattle.std.specs.Prelude.{◌≡◌, eqb, length};
 ghost use Rattle.reply.specs.Reply.{replied, reply_if};
 ghost use Rattle.plc_whiten.specs.Whiten.{damped, whitener, whiten_lp};
 
-use plc::autocorr::{SAMPLES, celt_autocorr};
+use history::HALF;
+use plc::autocorr::celt_autocorr;
 use plc_fir::celt_fir_inplace;
 use plc_lag_window::lag_window;
 use plc_lpc::celt_lpc;
@@ -30,7 +31,7 @@ fn damp(lpc: &mut [f32])
 }
 
 // The damped predictor of order 4.
-fn whitening(lp: &[f32; SAMPLES]) -> [f32; 4]
+fn whitening(lp: &[f32; HALF]) -> [f32; 4]
     ensures { result ≡ whitener lp.now }
 {
     let mut ac = celt_autocorr(lp);
@@ -46,7 +47,7 @@ fn whitening(lp: &[f32; SAMPLES]) -> [f32; 4]
 pub fn whiten(x_lp: &mut [f32]) -> Result<(), Refused>
     ensures { replied result x_lp.new ≡ reply_if (eqb (length x_lp.old) 1024) (whiten_lp x_lp.old) x_lp.old }
 {
-    let Ok(x) = <&[f32; SAMPLES]>::try_from(&x_lp[..]) else {
+    let Ok(x) = <&[f32; HALF]>::try_from(&x_lp[..]) else {
         return Err(Refused);
     };
     let num = whitening(x);

@@ -5,15 +5,14 @@
 ghost use Rattle.std.specs.Prelude.{◌≡◌};
 ghost use Rattle.plc_window.specs.Window.{windowed_ends};
 
-// The samples that are correlated: as many as the half of a history, whose crate stands above; the types tie the two.
-pub const SAMPLES: usize = 1024;
+use history::{HALF, OVERLAP};
 
 // The samples with the window on their first and last 120.
-pub fn windowed_ends(x: &[f32; SAMPLES], window: &[f32; 120]) -> [f32; SAMPLES]
+pub fn windowed_ends(x: &[f32; HALF], window: &[f32; OVERLAP]) -> [f32; HALF]
     ensures { result ≡ windowed_ends x.now window.now }
 {
     let mut xx = *x;
-    // By place: either end takes w. The window's 120 are the overlap that custom_mode names, no crate below.
+    // By place: w is put on the sample there, and on the one as far from the other end.
     for (i, w) in window.iter().enumerate() {
         let end = x.len() - i - 1;
         xx[i] = x[i] * *w;

@@ -8,18 +8,18 @@ ghost use Rattle.roll.specs.Roll.{rolled};
 
 use reply::Refused;
 
-// Moves new back by a frame and takes the frame in at its newest end. A frame longer than new is refused.
+// Moves the newest samples back by a frame, which comes in behind them. A frame longer than they are is refused.
 #[tactic(auto, using(std::proofs::lemmas::Bool::Decides::nat_tests), unfolding(reply::specs::Reply::reply_if))]
-pub fn roll(new: &mut [f32], frame: &[f32]) -> Result<(), Refused>
-    ensures { replied result new.new
-        ≡ reply_if (leb (length frame.now) (length new.old)) (rolled frame.now new.old) new.old }
+pub fn roll(newest: &mut [f32], frame: &[f32]) -> Result<(), Refused>
+    ensures { replied result newest.new
+        ≡ reply_if (leb (length frame.now) (length newest.old)) (rolled frame.now newest.old) newest.old }
 {
     let n = frame.len();
-    if new.len() < n {
+    if newest.len() < n {
         return Err(Refused);
     }
-    let kept = new.len() - n;
-    new.copy_within(n.., 0);
-    new[kept..].copy_from_slice(frame);
+    let kept = newest.len() - n;
+    newest.copy_within(n.., 0);
+    newest[kept..].copy_from_slice(frame);
     Ok(())
 }

@@ -7,22 +7,22 @@ use Rattle.excitation.proofs.repeat_cycle.Goals as goal
 pub returns-in_err-celt_fir_from : goal.returns-in_err-celt_fir_from
 returns-in_err-celt_fir_from c =
     let v = c.args.voice in
-    let new = c.in-Ok.ensures.1 in
+    let newest = c.in-Ok.ensures.1 in
     let lpc : length v.lpc.now ≡ 24 = search rules in
     let no : false ≡ true =
-    reply-taken _ _ _ c.in_err-celt_fir_from.ensures ∙ fir-fits v.lpc.now v.new.now c.args.mem.now _ lpc c.told-mem new.long new.same in
+    reply-taken _ _ _ c.in_err-celt_fir_from.ensures ∙ fir-fits v.lpc.now v.newest.now c.args.mem.now _ lpc c.told-mem newest.long newest.same in
     cc
 
 pub returns : goal.returns
 returns c =
     let a = c.args in
     let v = c.args.voice in
-    let new = c.in-Ok.ensures.1 in
+    let newest = c.in-Ok.ensures.1 in
     let from : ℕ = half - 2 * c.decay_period-period.result in
     let lpc : length v.lpc.now ≡ 24 = search rules in
-    repeat-is (length a.e.now) from v.new.now v.lpc.now a.mem.now _ a.e.now _ v.lag _ _ _
-    new.long
+    repeat-is (length a.e.now) from v.newest.now v.lpc.now a.mem.now _ a.e.now _ v.lag _ _ _
+    newest.long
     (ap (λ z. half - 2 * z) c.decay_period-period.ensures.0)
-    (whitened_is v.lpc.now v.new.now a.mem.now _ lpc c.told-mem new.long new.same from _ _ c.in_ok-celt_fir_from.ensures)
+    (whitened_is v.lpc.now v.newest.now a.mem.now _ lpc c.told-mem newest.long newest.same from _ _ c.in_ok-celt_fir_from.ensures)
     c.pitch_decay-decay.ensures
     c.periodic_copy.ensures

@@ -15,7 +15,7 @@ returns-in_err-celt_iir_inplace c =
     let v = c.args.voice in
     let x = c.filter_input-energy in
     let no : false ≡ true = reply-taken _ _ _ c.in_err-celt_iir_inplace.ensures
-    ∙ iir-takes (length a.e.now) v.new.now v.lpc.now x.result.0 _ c.celt_iir_inplace.new.buf _ v.lag a.first _ x.ensures.0 (x.ensures.1, x.ensures.2) refl
+    ∙ iir-takes (length a.e.now) v.newest.now v.lpc.now x.result.0 _ c.celt_iir_inplace.new.buf _ v.lag a.first _ x.ensures.0 (x.ensures.1, x.ensures.2) refl
     (takes-fits _ _ _ (sym c.if-not-takes.ensures)).room in
     cc
 
@@ -25,7 +25,7 @@ returns c =
     let v = c.args.voice in
     let x = c.filter_input-energy in
     reply-yes _ _ _ (sym c.if-not-takes.ensures)
-    (extrapolate_is (length a.e.now) v.new.now v.lpc.now x.result.0 _ _ _ v.lag a.first _ x.ensures.0 (x.ensures.1, x.ensures.2)
+    (extrapolate_is (length a.e.now) v.newest.now v.lpc.now x.result.0 _ _ _ v.lag a.first _ x.ensures.0 (x.ensures.1, x.ensures.2)
     c.energy_guard.ensures.1
     _
     (takes-fits _ _ _ (sym c.if-not-takes.ensures)).room

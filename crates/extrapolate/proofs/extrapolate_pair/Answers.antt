@@ -17,7 +17,7 @@ returns-in_err-celt_iir_pair c =
     let x = c.filter_input-s0 in
     let y = c.filter_input-s1 in
     let no : false ≡ true = reply-taken _ _ _ c.in_err-celt_iir_pair.ensures
-    ∙ iir-pair-takes (length a.e0.now) v.new.now w.new.now v.lpc.now w.lpc.now x.result.0 y.result.0 _ _
+    ∙ iir-pair-takes (length a.e0.now) v.newest.now w.newest.now v.lpc.now w.lpc.now x.result.0 y.result.0 _ _
     c.celt_iir_pair.new.a c.celt_iir_pair.new.b _ _ v.lag w.lag a.first _ _
     x.ensures.0 y.ensures.0 (length a.e1.now) (omega arith) (x.ensures.1, x.ensures.2) (y.ensures.1, y.ensures.2) refl refl
     (takes-fits _ _ _ (sym c.if-not-takes.ensures)).room in
@@ -31,7 +31,7 @@ returns c =
     let x = c.filter_input-s0 in
     let y = c.filter_input-s1 in
     reply-yes _ _ _ (pair-takes _ _ _ _ _ _ (omega arith) (sym c.if-not-takes.ensures) (sym c.if-not-takes-2.ensures))
-    (pair_is (length a.e0.now) v.new.now w.new.now v.lpc.now w.lpc.now x.result.0 y.result.0 _ _ _ _ _ _ v.lag w.lag a.first _ _
+    (pair_is (length a.e0.now) v.newest.now w.newest.now v.lpc.now w.lpc.now x.result.0 y.result.0 _ _ _ _ _ _ v.lag w.lag a.first _ _
     x.ensures.0 y.ensures.0 (length a.e1.now) (omega arith) (x.ensures.1, x.ensures.2) (y.ensures.1, y.ensures.2)
     c.energy_guard.ensures.1 c.energy_guard-2.ensures.1 _
     (takes-fits _ _ _ (sym c.if-not-takes.ensures)).room

@@ -15,6 +15,6 @@ returns c =
     let v = c.args.voice in
     let r = c.requires in
     let f =
-    faded_is (length a.e.now) v.new.now v.lpc.now c.most_recent-mem.result a.e.now c.repeat_cycle.new.e _ v.lag a.first _ _ c.fade_of.result r.0 r.1 r.2
+    faded_is (length a.e.now) v.newest.now v.lpc.now c.most_recent-mem.result a.e.now c.repeat_cycle.new.e _ v.lag a.first _ _ c.fade_of.result r.0 r.1 r.2
     c.repeat_cycle.ensures c.fade_of.ensures c.scale.ensures in
     (c.most_recent-mem.ensures, f.0, sym (ap (value_or zero32) c.unwrap-energy.ensures) ∙ f.1)

@@ -26,11 +26,11 @@ loop-sample-preserved c =
       within = omega (arith, position_in a.lag (i + 1) (omega arith));
       at = at;
       decay = c.next-place.ensures.1 ∙ decay_more _ _ _ _ _ h.at h.decay;
-      copied = tab-more _ nan _ _ _ h.copied _ (copied_sample a.exc.now a.new.now _ _ _ _ _ h.at h.decay) (omega arith);
-      heard = heard_more a.exc.now a.new.now _ _ _ _ _ h.at h.decay _ h.heard;
+      copied = tab-more _ nan _ _ _ h.copied _ (copied_sample a.exc.now a.newest.now _ _ _ _ _ h.at h.decay) (omega arith);
+      heard = heard_more a.exc.now a.newest.now _ _ _ _ _ h.at h.decay _ h.heard;
     }
 
 pub returns : goal.returns
 returns c =
     let h = c.loop-sample.invariant in
-    reply-yes _ _ _ (cycle-takes _ _ c.if-new-ne-HALF.false (omega arith) (omega arith)) (whole_cycle _ _ _ _ _ _ _ _ h.copied h.heard (omega arith))
+    reply-yes _ _ _ (cycle-takes _ _ c.if-newest-ne-HALF.false (omega arith) (omega arith)) (whole_cycle _ _ _ _ _ _ _ _ h.copied h.heard (omega arith))

@@ -15,5 +15,5 @@ invariant-loop-sample l = record {
   at : l.place.at ≡ position_at l.lag l.sample-index;
   decay : l.place.decay ≡ decay_at l.lag l.decay l.sample-index;
   copied : l.e ≡ front (tab (copy_at l.exc l.lag l.decay) l.sample-index) l.initial.e l.sample-index;
-  heard : l.energy ≡ sum_to binary32 (heard_at l.new l.lag) zero32 l.sample-index;
+  heard : l.energy ≡ sum_to binary32 (heard_at l.newest l.lag) zero32 l.sample-index;
 }

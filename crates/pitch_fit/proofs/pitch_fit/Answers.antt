@@ -17,6 +17,6 @@ returns c =
     let w = c.window in
     let ac = c.celt_autocorr_windowed-ac in
     let b = c.lag_window in
-    let new = c.in-Ok.ensures.1 in
-    fit_is a.new.now _ w.result ac.result b.new.ac a.lpc.now _ _ _ (search rules)
-    new.same w.ensures ac.ensures b.ensures c.celt_lpc.ensures new.long
+    let newest = c.in-Ok.ensures.1 in
+    fit_is a.newest.now _ w.result ac.result b.new.ac a.lpc.now _ _ _ (search rules)
+    newest.same w.ensures ac.ensures b.ensures c.celt_lpc.ensures newest.long

@@ -6,7 +6,7 @@ returns c =
     let a = c.args in
     let s = c.args.self in
     let x = c.continue_both in
-    stereo-is s.n s.pitch.lag s.pitch.first s.pitch.filter a.history.now s.pitch.predictor c.requires s.frame x.new.e0 x.new.e1
+    stereo-is s.n s.pitch.lag s.pitch.first s.pitch.filter a.history.now s.pitch.predictor c.told-history s.frame x.new.e0 x.new.e1
     c.take_at.new.h
     c.take_at-2.new.h
     x.ensures.0

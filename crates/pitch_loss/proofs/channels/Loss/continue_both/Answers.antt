@@ -9,7 +9,7 @@ unwrap-requires c =
     let a = c.args in
     let s = c.args.self in
     reply-taken _ _ _ c.extrapolate_pair.ensures
-    ∙ both-take s.n s.pitch.lag s.pitch.first a.h.now s.pitch.predictor s.frame c.requires s.lag_low s.lag_high a.e0.now a.e1.now c.told-e0 c.told-e1
+    ∙ both-take s.n s.pitch.lag s.pitch.first a.h.now s.pitch.predictor s.frame c.told-h s.lag_low s.lag_high a.e0.now a.e1.now c.told-e0 c.told-e1
 
 pub returns : goal.returns
 returns c =
@@ -17,7 +17,7 @@ returns c =
     let s = c.args.self in
     let x = c.extrapolate_pair in
     let two : length s.pitch.predictor ≡ order + order = search rules in
-    both_follow s.n s.pitch.lag s.pitch.first a.h.now s.pitch.predictor s.frame c.requires s.lag_low s.lag_high a.e0.now a.e1.now x.new.e0 x.new.e1
+    both_follow s.n s.pitch.lag s.pitch.first a.h.now s.pitch.predictor s.frame c.told-h s.lag_low s.lag_high a.e0.now a.e1.now x.new.e0 x.new.e1
     c.coefficients.result c.coefficients-2.result _ two c.told-e0 c.told-e1
     c.coefficients.ensures
     c.coefficients-2.ensures
