@@ -55,6 +55,7 @@ pub fn comb_filter_to(dst: &mut [f32], x: &[f32], f: Filter) -> Result<(), Refus
         return Err(Refused);
     }
     let g = tap_gains(f);
+    // By place: each reads x around its own place one period back.
     for (i, sample) in dst.iter_mut().enumerate() {
         *sample = comb_at(x, HALF + i, f.period as usize, g);
     }

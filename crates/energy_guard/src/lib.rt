@@ -6,7 +6,8 @@ ghost use Rattle.std.specs.Prelude.{◌≡◌};
 ghost use Rattle.buffers.specs.Buffers.{zero32, energy};
 ghost use Rattle.energy_guard.specs.Guard.{muted, guarded};
 
-// Whether the samples were zeroed. A struct: a contract asks for the verdict by its name, where a bare bool would not say which it is.
+// Whether the samples were zeroed.
+// A struct: a contract asks for the verdict by its name, where a bare bool would not say which it is.
 #[derive(Clone, Copy)]
 pub struct Guarded {
     pub muted: bool,

@@ -12,16 +12,17 @@ ghost use Rattle.extrapolate.specs.Extrapolate.{fade, recent, faded_cycle, extra
 
 use energy_guard::energy_guard;
 use excitation::{Voice, repeat_cycle};
-use history::{EXTRA, HALF, LONGEST_FRAME};
+use history::HALF;
 use plc_iir::celt_iir_inplace;
 use plc_iir_pair::celt_iir_pair;
 use plc_pad::ORDER;
 use reply::Refused;
 
-// What is extrapolated at most: as many as plc_iir filters, which refuses more.
-pub const LONGEST: usize = LONGEST_FRAME + EXTRA;
+// What is extrapolated at most: as many as the filter takes.
+pub const LONGEST: usize = plc_iir::LONGEST;
 
-// `first` answers a question, whether the loss before was none: a bool, since a caller has it as a comparison, `loss_count == 0`.
+// Here and below `first` answers a question, whether the loss before was none:
+// a bool, since a caller has it as a comparison, `loss_count == 0`.
 #[tactic(auto, unfolding(crate::specs::Extrapolate::fade))]
 fn fade_of(first: bool) -> f32
     ensures { result ≡ fade first }
@@ -40,7 +41,8 @@ fn most_recent(newest: &[f32]) -> [f32; ORDER]
     mem
 }
 
-// Fills e with the filter's input, the faded cycle; returns the filter's memory, and the energy of the history that the cycle stands for.
+// Fills e with the filter's input, the faded cycle.
+// Returns the filter's memory, and the energy of the history that the cycle stands for.
 fn filter_input(e: &mut [f32], voice: Voice, first: bool) -> ([f32; ORDER], f32)
     requires { (length voice.newest.now ≡ half) × (0 < voice.lag) × (voice.lag ≤ half) }
     ensures { (result.0 ≡ recent voice.entry.newest.now)
@@ -61,7 +63,8 @@ fn takes(m: usize, voice: Voice) -> bool
     m <= LONGEST && voice.newest.len() == HALF && (1..=HALF).contains(&voice.lag)
 }
 
-// Fills e with what follows the voice. Refused, with e as lent: e above 1,200 samples, newest not of 1,024, a lag of 0 or above 1,024.
+// Fills e with what follows the voice.
+// Refused, with e as lent: e above 1,200 samples, newest not of 1,024, a lag of 0 or above 1,024.
 pub fn extrapolate(e: &mut [f32], voice: Voice, first: bool) -> Result<(), Refused>
     ensures { replied result e.new
         ≡ reply_if (extrapolate_takes (length e.old) (length voice.entry.newest.now) voice.entry.lag)
@@ -76,7 +79,8 @@ pub fn extrapolate(e: &mut [f32], voice: Voice, first: bool) -> Result<(), Refus
     Ok(())
 }
 
-// Both channels: their all-pole filters run side by side, in the time of one.
+// Both channels, not `extrapolate` twice: their all-pole filters run side by side, in the time of one.
+// Buffers and voices apart: the buffers are changed, and the voices are not.
 // Refused where a single channel is, and where e0 and e1 differ in length.
 #[tactic(auto, using(std::proofs::lemmas::Bool::Decides::nat_tests), unfolding(reply::specs::Reply::reply_if, crate::specs::Extrapolate::extrapolate_pair_takes))]
 pub fn extrapolate_pair(

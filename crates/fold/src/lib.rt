@@ -33,6 +33,7 @@ pub fn fold_tail(over: &mut [f32], x: &[f32]) -> Result<(), Refused>
         return Err(Refused);
     }
     let w = celt_window::window();
+    // By place: each reads x and the window from both ends.
     for (k, place) in over.iter_mut().enumerate() {
         *place = fold_at(&w, x, k);
     }

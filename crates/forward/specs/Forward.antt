@@ -16,7 +16,8 @@ use Rattle.fold.specs.Fold.{folded}
 use Rattle.extrapolate.specs.Extrapolate.{extrapolated}
 use Rattle.take_in.specs.TakeIn.{extra}
 
--- y[i] += g0 × y[a] + g1 × (y[a - 1] + y[a + 1]) + g2 × (y[a - 2] + y[a + 2]), one period t back, in place: later samples read filtered ones
+-- y[i] += g0 × y[a] + g1 × (y[a - 1] + y[a + 1]) + g2 × (y[a - 2] + y[a + 2]), one period t back, in place:
+-- later samples read filtered ones
 unfoldable pub comb_turn : ℕ → Float → Float → Float → List Float → ℕ → List Float
 comb_turn t g0 g1 g2 y j =
     let i = half + j in
@@ -37,7 +38,8 @@ unfoldable pub post_filtered : Filter → List Float → List Float
 post_filtered f x =
     cond (skips f.gain) x (comb_filter f.period (forward_gain f 0) (forward_gain f 1) (forward_gain f 2) x)
 
--- the steps after the synthesis e, in the Rust's order: the forward filter, the roll with the overlap in it, the fold, the frame, the pre-filter
+-- the steps after the synthesis e, in the Rust's order:
+-- the forward filter, the roll with the overlap in it, the fold, the frame, the pre-filter
 unfoldable pub framed : ℕ → List Float → List Float → Filter → List Float
 framed n e x f =
     let rolled = moved_back n (post_filtered f x) in

@@ -79,7 +79,8 @@ impl Loss {
         .unwrap();
     }
 
-    // Mono runs the single filter, stereo the pair. Apart: one function would ask twice which it is, and clear a second buffer for mono.
+    // Mono runs the single filter, stereo the pair.
+    // Apart: one function would ask twice which it is, and clear a second buffer for mono.
     pub(crate) fn conceal_mono(self, history: &mut [f32; WHOLE])
         ensures { history.new
             ≡ with_tails history.old

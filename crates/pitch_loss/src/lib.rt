@@ -1,4 +1,5 @@
-// A pitch loss on a whole history: the newest samples continued by a frame, which is rolled in, folded into the overlap and pre-filtered.
+// A pitch loss on a whole history: the newest samples are continued by a frame, which is rolled in,
+// folded into the overlap and pre-filtered.
 
 #![tactic(auto)]
 

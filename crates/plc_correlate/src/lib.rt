@@ -17,7 +17,7 @@ fn add_products(v: f32, y: &[f32], sums: &mut [f32])
     ensures { sums.new
         ≡ tab (λ (i : ℕ). add binary32 (get_or sums.old i nan) (mul binary32 v (get_or y.now i nan))) (length sums.old) }
 {
-    // By place: y goes on past the sums.
+    // By place: a zip with `iter_mut` tells a proof the items, not the list that they leave.
     for (i, s) in sums.iter_mut().enumerate() {
         *s += v * y[i];
     }

@@ -1,4 +1,4 @@
--- 2:1 downsampling ahead of the lag search, as `pitch_downsample` has it: smoothed, and whitened by a damped predictor of order 4.
+-- 2:1 downsampling ahead of the lag search, as `pitch_downsample` has it: smoothed, and whitened by a predictor of order 4.
 use Rattle.std.specs.Prelude.{ℕ, ◌+◌, ◌*◌, ◌-◌, ◌≡◌, Bool, cond, ◌&&◌, List, eqb, get_or, Float}
 use Rattle.std.proofs.Common.{ap, ◌∙◌}
 use Rattle.std.specs.Float.{nan, binary32}

@@ -26,7 +26,7 @@ fn padded(buf: &[f32], mem: &[f32]) -> [f32; ORDER + LONGEST]
 }
 
 // Adds to each of out's samples its taps in order; row by row, so that neighbouring samples run side by side.
-// By place: tap j stands j places before the sample.
+// By place: tap j stands j places before the sample. Also a zip with `iter_mut` tells a proof the items, not the list that they leave.
 fn add_taps(out: &mut [f32], num: &[f32], pad: &[f32])
     requires { (length num.now ≤ 24) × (length pad.now ≡ length out.old + 24) }
     ensures { out.new
@@ -49,8 +49,10 @@ fn filter_from(buf: &mut [f32], from: usize, num: &[f32], mem: &[f32])
     add_taps(&mut buf[from..], num, &pad[from..end]);
 }
 
-// Filters from place `from` on; what stands before it stays. Three slices: buf is changed, and taps and memory have owners of their own.
-// mem, the inputs before the start with the most recent first, is as long as num, 24 at most, and buf 1,024 at most; else refused, and buf stays.
+// Filters from place `from` on; what stands before it stays.
+// Three slices: buf is changed, and taps and memory have owners of their own.
+// mem, the inputs before the start with the most recent first, is as long as num, 24 at most, and buf 1,024 at most;
+// else refused, and buf stays.
 #[tactic(auto, using(std::proofs::lemmas::Bool::Decides::nat_tests), unfolding(reply::specs::Reply::reply_if))]
 pub fn celt_fir_from(buf: &mut [f32], from: usize, num: &[f32], mem: &[f32]) -> Result<(), Refused>
     ensures { replied result buf.new

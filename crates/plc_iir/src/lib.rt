@@ -27,6 +27,7 @@ pub fn celt_iir_inplace(
     }
     let mut y = [0.0f32; ORDER + LONGEST];
     plc_pad::remember(&mut y, mem).unwrap();
+    // By place: each turn reads the 24 places before the one that it writes.
     for (i, x) in buf.iter_mut().enumerate() {
         let sum = less_taps(den, y[i..i + ORDER].try_into().unwrap(), *x);
         y[ORDER + i] = sum;

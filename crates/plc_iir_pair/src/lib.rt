@@ -11,7 +11,9 @@ use plc_iir::LONGEST;
 use plc_pad::{ORDER, less_taps};
 use reply::Refused;
 
-// Two channels of one length side by side: the second runs in the time of the first. Other lengths are refused, and both stay.
+// Two channels of one length side by side, not one after the other: the second runs in the time of the first.
+// Buffer, taps and memory apart: the buffers are changed, and the rest has owners of its own.
+// Other lengths are refused, and both buffers stay.
 #[tactic(auto, using(std::proofs::lemmas::Bool::Decides::nat_tests), unfolding(reply::specs::Reply::reply_if))]
 pub fn celt_iir_pair(
     a: &mut [f32],

@@ -11,7 +11,8 @@ use reply::Refused;
 // The part of the first correlation below which the error stops the predictor.
 const SMALL: f32 = 0.001;
 
-// Levinson-Durbin: leaves once the error is below 0.001 of the first correlation. By place: the loops take two places at a time from either side.
+// Levinson-Durbin: leaves once the error is below 0.001 of the first correlation.
+// By place: a turn is as long as its number, and the loops in it take a place from either side.
 fn solve(lpc: &mut [f32], ac: &[f32])
     requires { length ac.now ≡ length lpc.old + 1 }
     ensures { lpc.new ≡ celt_lpc ac.now (length lpc.old) }

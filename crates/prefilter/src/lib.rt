@@ -11,7 +11,8 @@ use history::{HALF, OVERLAP, TAIL};
 use post_filter::{Filter, filter_fits};
 use reply::Refused;
 
-// A gain of zero leaves the overlap, a NaN does not. Refused, with t as lent: t not of 1,144 samples, a setting outside its limits.
+// A gain of zero leaves the overlap, a NaN does not.
+// Refused, with t as lent: t not of 1,144 samples, a setting outside its limits.
 #[tactic(auto, using(std::proofs::lemmas::Bool::Decides::nat_tests), unfolding(reply::specs::Reply::reply_if, crate::specs::Prefilter::prefilter_takes))]
 pub fn prefilter(t: &mut [f32], f: Filter) -> Result<(), Refused>
     ensures { replied result t.new ≡ reply_if (prefilter_takes (length t.old) f) (pre_filtered_end f t.old) t.old }

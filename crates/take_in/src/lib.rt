@@ -14,8 +14,9 @@ use prefilter::prefilter;
 use reply::Refused;
 use roll::roll;
 
-// On the newest 1,024 and the overlap: e's first n samples come in, and the next 120 are folded into the overlap, which is pre-filtered.
-// Refused, with t as lent: t not of 1,144 samples, a frame above 960, e not of the frame and 240 more, a filter outside its limits.
+// On the newest 1,024 and the overlap: e's first n samples come in, and the next 120 are folded into the overlap,
+// which is pre-filtered. Refused, with t as lent: t not of 1,144 samples, a frame above 960, e not of the frame and 240 more,
+// a filter outside its limits.
 #[tactic(auto, using(std::proofs::lemmas::Bool::Decides::nat_tests), unfolding(reply::specs::Reply::reply_if, crate::specs::TakeIn::tail_takes))]
 pub fn take_in(t: &mut [f32], n: usize, e: &[f32], filter: Filter) -> Result<(), Refused>
     ensures { replied result t.new
