@@ -1,3 +1,4 @@
 -- laws that several proofs cite
 mod Finer
 mod Steps
+mod Made

@@ -10,6 +10,7 @@ ghost use Rattle.plc_search.specs.Rows.{near_row, near_at};
 use history::{HALF, LAG_LEAST, LAG_MOST};
 use plc_best::find_best_pitch;
 use plc_correlate::correlate;
+use std::array;
 
 // At half rate: where the newest samples start, the longest lag behind the first place.
 const LATER: usize = LAG_MOST / 2;
@@ -36,14 +37,11 @@ const SAMPLES4: usize = COMPARED4 + PLACES4;
 const CLOSE: f32 = 0.7;
 
 // Every second sample.
-fn every_second(x: &[f32], out: &mut [f32])
-    requires { 2 * length out.old ≤ length x.now + 1 }
-    ensures { out.new ≡ every_second x.now (length out.old) }
+fn every_second<const N: usize>(x: &[f32]) -> [f32; N]
+    requires { 2 * N ≤ length x.now + 1 }
+    ensures { result ≡ every_second x.now N }
 {
-    // By place: sample j is read at twice its place.
-    for (j, v) in out.iter_mut().enumerate() {
-        *v = x[2 * j];
-    }
+    array::from_fn(|j| x[2 * j])
 }
 
 // The first place within 2 of twice b.
@@ -95,21 +93,15 @@ fn fine_row(y: &[f32; HALF], b0: usize, b1: usize) -> [f32; PLACES]
 {
     let near0 = Near::around(y, b0);
     let near1 = Near::around(y, b1);
-    let mut xcorr = [0.0f32; PLACES];
-    for (i, v) in xcorr.iter_mut().enumerate() {
-        *v = near0.at(i).or(near1.at(i)).unwrap_or(0.0);
-    }
-    xcorr
+    array::from_fn(|i| near0.at(i).or(near1.at(i)).unwrap_or(0.0))
 }
 
 // The two best places at quarter rate.
 fn coarse_best(y: &[f32; HALF]) -> (usize, usize)
     ensures { result ≡ ((coarse_best y.now).first.at, (coarse_best y.now).second.at) }
 {
-    let mut x4 = [0.0f32; COMPARED4];
-    every_second(&y[LATER..], &mut x4);
-    let mut y4 = [0.0f32; SAMPLES4];
-    every_second(y, &mut y4);
+    let x4: [f32; COMPARED4] = every_second(&y[LATER..]);
+    let y4: [f32; SAMPLES4] = every_second(y);
     let mut xcorr = [0.0f32; PLACES4 + 1];
     correlate(&x4, &y4, &mut xcorr).unwrap();
     find_best_pitch(&xcorr[..PLACES4], &y4, COMPARED4).unwrap()

@@ -9,24 +9,24 @@ use Rattle.buffers.specs.Buffers.{zero32}
 use Rattle.plc_search.proofs.coarse_best.Goals as goal
 
 pub unwrap-requires : goal.unwrap-requires
-unwrap-requires c = coarse-taken _ _ (replicate 156 zero32) c.every_second.ensures c.every_second-2.ensures refl c.correlate.ensures
+unwrap-requires c = coarse-taken _ _ (replicate 156 zero32) c.every_second-x4.ensures c.every_second-y4.ensures refl c.correlate.ensures
 
 pub slice_bounds-find_best_pitch-end : goal.slice_bounds-find_best_pitch-end
 slice_bounds-find_best_pitch-end c =
-    let e1 = c.every_second.ensures in
-    let e2 = c.every_second-2.ensures in
+    let e1 = c.every_second-x4.ensures in
+    let e2 = c.every_second-y4.ensures in
     sym (first_count _ _ 155 156 (omega arith) (coarse-row _ _ (replicate 156 zero32) e1 e2 refl c.correlate.ensures))
 
 pub unwrap-requires-2 : goal.unwrap-requires-2
 unwrap-requires-2 c =
-    let e1 = c.every_second.ensures in
-    let e2 = c.every_second-2.ensures in
+    let e1 = c.every_second-x4.ensures in
+    let e2 = c.every_second-y4.ensures in
     ap is_some (coarse-pair _ _ _ _ (search rules) e1 e2 (coarse-row _ _ (replicate 156 zero32) e1 e2 refl c.correlate.ensures) c.find_best_pitch.ensures)
 
 pub returns : goal.returns
 returns c =
-    let e1 = c.every_second.ensures in
-    let e2 = c.every_second-2.ensures in
+    let e1 = c.every_second-x4.ensures in
+    let e2 = c.every_second-y4.ensures in
     same_Some _ _
     (sym c.unwrap-2.ensures
     ∙ coarse-pair _ _ _ _ (search rules) e1 e2 (coarse-row _ _ (replicate 156 zero32) e1 e2 refl c.correlate.ensures) c.find_best_pitch.ensures)

@@ -1,23 +1,20 @@
-use Rattle.loops.specs.Front.{tab-none, tab-more, tab-all}
-use Rattle.plc_search.proofs.Finer.{fine-at}
-use mathlib.Core.Path.{ap, ◌∙◌}
-use Rattle.std.specs.Prelude.{unwrap_or}
-use Rattle.buffers.specs.Buffers.{zero32}
+use mathlib.Core.Path.{◌≡◌, refl, ◌∙◌}
 use lib.Ieee.{nan}
-use borrow.Author.Rules.{rules}
+use Rattle.std.proofs.Common.{rules, of_calls}
+use Rattle.std.specs.Prelude.{unwrap_or}
+use Rattle.std.specs.Option.{option_or}
+use Rattle.buffers.specs.Buffers.{zero32}
+use Rattle.plc_search.specs.Rows.{near_at}
+use Rattle.plc_search.proofs.Finer.{fine-at}
+use Rattle.plc_search.proofs.Made.{made}
 use Rattle.plc_search.proofs.fine_row.Goals as goal
 
-pub loop-i-init : goal.loop-i-init
-loop-i-init c = tab-none _ _
-
-pub loop-i-preserved : goal.loop-i-preserved
-loop-i-preserved c =
-    let p = c.around-near0.ensures in
-    let q = c.around-near1.ensures in
-    tab-more _ nan _ _ _ c.loop-i.invariant _
-    (c.unwrap_or.ensures ∙ ap (λ z. unwrap_or z zero32) c.or.ensures
-    ∙ fine-at _ _ _ _ _ _ _ _ p.place q.place p.values q.values c.at.ensures c.at-in-loop-i.ensures)
-    (search rules)
-
 pub returns : goal.returns
-returns c = tab-all _ nan _ _ _ c.loop-i.invariant (search rules)
+returns c =
+    let m = c.around-near0 in
+    let n = c.around-near1 in
+    made _ _ _ 310
+    (λ i y q l k.
+    let e : y ≡ unwrap_or (option_or (near_at m.result.row m.result.b i) (near_at n.result.row n.result.b i)) zero32 = search (rules, of_calls, k) in
+    (e ∙ fine-at _ _ _ _ _ _ _ _ m.ensures.place n.ensures.place m.ensures.values n.ensures.values refl refl, search (rules, k)))
+    nan _ c.from_fn.ensures.items
