@@ -16,9 +16,9 @@ const COUNT_FULL: u32 = u32::MAX;
 pub const PITCH_LAST: u32 = 4;
 
 // The shortest lag and the longest.
-pub const LAG_LEAST: u32 = 102;
+pub const LAG_LEAST: u32 = history::LAG_LEAST as u32;
 
-pub const LAG_MOST: u32 = 720;
+pub const LAG_MOST: u32 = history::LAG_MOST as u32;
 
 // A carried lag is read where start is 0 and the loss count 1 to 4.
 fn check_lag(start: u32, c: u32, lag: u32) -> Result<(), Refusal>
