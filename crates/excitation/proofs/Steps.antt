@@ -150,7 +150,8 @@ left exc xs xs' p k at x w r e f =
     )
 
 module _ (exc : List Float) (p : ℕ) (l : length exc ≡ half) (h : p ≤ longest_period) where
-  pub periods-none : (xs ys : List Float) (m n : ℕ) → m ≡ p → n ≡ p → xs ≡ take m (drop (half - p) exc) → ys ≡ take n (drop (half - 2 * p) exc) → PeriodsAt exc p xs ys 0 one32 one32
+  pub periods-none : (xs ys : List Float) (m n : ℕ) → m ≡ p → n ≡ p → xs ≡ take m (drop (half - p) exc) → ys ≡ take n (drop (half - 2 * p) exc)
+      → PeriodsAt exc p xs ys 0 one32 one32
   unfolding period_energy
   periods-none xs ys m n r q e f = record {
     within = omega arith;

@@ -180,7 +180,8 @@ module _ (n lag : ℕ) (first : Bool) (f : Filter) (h c : List Float) (lh : leng
       let Q : Tail = pitch_tail n (tails h).second lag first (drop order c) f in
       let z : TailSized P = pitch_sized n (tails h).first lag first (take order c) f ln (tails-sized h lh).first in
       let g : h₁ ≡ put half (half + overlap) (tail_list P) h = r ∙ (λ i. put half (half + overlap) (tail_list (tail_after n (p i) f (tail-first i))) h) in
-      s ∙ ap (λ w. put (channel + half) (half + overlap) (tail_list (tail_after n (take (n + extra) d) f (tail_of (take (half + overlap) (drop (channel + half) w))))) w) g
+      s ∙ ap (λ w. put (channel + half) (half + overlap) (tail_list (tail_after n (take (n + extra) d) f (tail_of (take (half + overlap) (drop (channel + half) w))))) w)
+      g
       ∙ (λ i. put (channel + half) (half + overlap) (tail_list (tail_after n (q i) f (tail-second P z i))) (put half (half + overlap) (tail_list P) h))
       ∙ put_both h P Q lh z
 

@@ -64,18 +64,23 @@ raised x y xs b m n i v e q h r =
 pub correlated : {t : Bool} {r : List Float} (x y w : List Float)
     → reply t r ≡ reply_if (correlate_takes (length x) (length y) (length w)) (tab (correlation x y (length x)) (length w)) w → length x + length w ≤ length y + 1
     → r ≡ tab (correlation x y (length x)) (length w)
-correlated x y w e h = reply-lent (correlate_takes (length x) (length y) (length w)) (tab (correlation x y (length x)) (length w)) w e (le-leb (length x + length w) (length y + 1) h)
+correlated x y w e h =
+    reply-lent (correlate_takes (length x) (length y) (length w)) (tab (correlation x y (length x)) (length w)) w e
+    (le-leb (length x + length w) (length y + 1) h)
 
 -- it takes them
 pub taken : {t : Bool} {r : List Float} (x y w : List Float)
     → reply t r ≡ reply_if (correlate_takes (length x) (length y) (length w)) (tab (correlation x y (length x)) (length w)) w → length x + length w ≤ length y + 1
     → t ≡ true
-taken x y w e h = reply-taken (correlate_takes (length x) (length y) (length w)) (tab (correlation x y (length x)) (length w)) w e ∙ le-leb (length x + length w) (length y + 1) h
+taken x y w e h =
+    reply-taken (correlate_takes (length x) (length y) (length w)) (tab (correlation x y (length x)) (length w)) w e
+    ∙ le-leb (length x + length w) (length y + 1) h
 
 -- samples from `lo` on, counted from there
 pub from : (x y : List Float) (lo k n : ℕ) → correlation x (drop lo y) n k ≡ correlation x y n (lo + k)
 unfolding correlation cross_sum
 from x y lo k n =
     ap (λ z. max_of z minus_one)
-    (sum_same binary32 (λ (j : ℕ). mul binary32 (get_or x j nan) (get_or (drop lo y) (k + j) nan)) (λ (j : ℕ). mul binary32 (get_or x j nan) (get_or y (lo + k + j) nan)) zero32 n
+    (sum_same binary32 (λ (j : ℕ). mul binary32 (get_or x j nan) (get_or (drop lo y) (k + j) nan))
+    (λ (j : ℕ). mul binary32 (get_or x j nan) (get_or y (lo + k + j) nan)) zero32 n
     (λ j h. ap (λ z. mul binary32 (get_or x j nan) z) (get_or-drop lo y (k + j) nan ∙ ap (λ z. get_or y z nan) (sym (add_assoc lo k j)))))

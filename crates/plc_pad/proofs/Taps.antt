@@ -133,7 +133,8 @@ remembers_all mem n v e h m k g =
     let l : length (replicate n v) ≡ n = length-replicate n v in
     let p : 24 ≤ length (replicate n v) = omega arith in
     ap (λ z. get_or z (23 - k) nan)
-    (reply-lent (pad_takes (length (replicate n v)) (length mem)) (remembered mem (replicate n v)) (replicate n v) e (pad-takes (length (replicate n v)) (length mem) p m))
+    (reply-lent (pad_takes (length (replicate n v)) (length mem)) (remembered mem (replicate n v)) (replicate n v) e
+    (pad-takes (length (replicate n v)) (length mem) p m))
     ∙ remembers_to mem (replicate n v) (length mem) m p k g
 
 -- a value behind sample i, of the memory or of the samples

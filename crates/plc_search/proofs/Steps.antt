@@ -68,7 +68,8 @@ coarse-taken {x4 = x4} {y4 = y4} x y w ex ey l e =
 
 -- the two best of them, which are never refused here
 pub coarse-pair : {r : Option (ℕ × ℕ)} (y x4 y4 xc : List Float) → length y ≡ 1024 → x4 ≡ every_second (take 664 (drop 360 y)) 332 → y4 ≡ every_second y 487
-    → xc ≡ tab (correlation x4 y4 (length x4)) 156 → r ≡ best_pitches (take 155 xc) y4 332 (length (take 155 xc)) → r ≡ Some ((coarse_best y).first.at, (coarse_best y).second.at)
+    → xc ≡ tab (correlation x4 y4 (length x4)) 156 → r ≡ best_pitches (take 155 xc) y4 332 (length (take 155 xc))
+    → r ≡ Some ((coarse_best y).first.at, (coarse_best y).second.at)
 coarse-pair y x4 y4 xc h e1 e2 e3 e4 =
     let m : length y4 ≡ 487 = ap length e2 ∙ length-second y 487 in
     found (take 155 xc) y4 332 155 (first_count (correlation x4 y4 (length x4)) xc 155 156 (omega arith) e3) (omega arith) e4

@@ -133,7 +133,9 @@ module _ (n : ℕ) (x e : List Float) (f : Filter) (lx : length x ≡ half + ove
           (λ i. a i ++ (d i ++ b i)) ∙ ap (λ w. framed ++ w) (append-nil over)
 
       pub after_is : (v : List Float) (a : Bool)
-          → reply a v ≡ reply_if (prefilter_takes (length (put half k y (r ++ drop half x))) f) (pre_filtered_end f (put half k y (r ++ drop half x))) (put half k y (r ++ drop half x))
+          → reply a v
+          ≡ reply_if (prefilter_takes (length (put half k y (r ++ drop half x))) f) (pre_filtered_end f (put half k y (r ++ drop half x)))
+          (put half k y (r ++ drop half x))
           → reply a v ≡ reply_if (tail_takes (length x) n (length e) f) (tail_list (tail_after n e f (tail_of x))) x
       unfolding pre_filtered_end
       after_is v a h =

@@ -19,8 +19,10 @@ pub loop-i-init : goal.loop-i-init
 loop-i-init c = let a = c.args in
     let r = c.remember in
     let q = c.remember-2 in (
-      filtered-none a.den_a.now a.mem_a.now a.a.now r.new.pad (search rules) (remembers_all a.mem_a.now 1224 (of_bits binary32 0) r.ensures (search rules) (search rules)),
-      filtered-none a.den_b.now a.mem_b.now a.b.now q.new.pad (search rules) (remembers_all a.mem_b.now 1224 (of_bits binary32 0) q.ensures (search rules) (search rules)),
+      filtered-none a.den_a.now a.mem_a.now a.a.now r.new.pad (search rules)
+          (remembers_all a.mem_a.now 1224 (of_bits binary32 0) r.ensures (search rules) (search rules)),
+      filtered-none a.den_b.now a.mem_b.now a.b.now q.new.pad (search rules)
+          (remembers_all a.mem_b.now 1224 (of_bits binary32 0) q.ensures (search rules) (search rules)),
     )
 
 pub loop-i-preserved : goal.loop-i-preserved
