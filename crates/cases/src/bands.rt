@@ -9,12 +9,11 @@ const WIDEST: usize = 176;
 
 fn answer_band(wire: &mut Wire) -> io::Result<()> {
     let width = WIDEST.min(wire.read()?);
-    let mut x = wire.read_floats::<WIDEST>()?;
+    let mut x = wire.read::<[f32; WIDEST]>()?;
     renormalise_vector(&mut x[..width], 1.0);
-    wire.write_all(&x)
+    wire.write(x)
 }
 
-// Whether op is known: the protocol's numbers.
 pub(crate) fn answer(wire: &mut Wire, op: u32) -> io::Result<bool> {
     match op {
         401 => wire.answer(celt_lcg_rand)?,

@@ -34,7 +34,8 @@ impl Decoder {
         b
     }
 
-    // One call, lent the first n samples of the history and the first p of a PCM buffer, each 1 before it: number, kind and sample count.
+    // One call, lent the first n samples of the history and the first p of a PCM buffer, each 1 before it: number, kind and
+    // sample count.
     pub(crate) fn call(&mut self, n: usize, pcm: &mut [f32], p: usize) -> [u32; 3] {
         let last = p.min(pcm.len());
         let lent = &mut pcm[..last];

@@ -8,51 +8,41 @@ use plc_iir::{LONGEST, celt_iir_inplace};
 use plc_lpc::celt_lpc;
 use std::io;
 
-fn answer_autocorr(wire: &mut Wire) -> io::Result<()> {
-    let x = wire.read_floats()?;
-    wire.write_all(&celt_autocorr(&x))
-}
-
-fn answer_windowed(wire: &mut Wire) -> io::Result<()> {
-    let x = wire.read_floats()?;
-    let window = wire.read_floats()?;
-    wire.write_all(&celt_autocorr_windowed(&x, &window))
-}
-
-// The predictor of an order from one correlation more.
+// The predictor of an order from one correlation more. Beside a frame's cosine sum: what a step asks of its sizes is required
+// here, and one function for both would have to require it of any step.
 fn answer_lpc<const ORDER: usize, const CORRELATIONS: usize>(wire: &mut Wire) -> io::Result<()>
     requires { (ORDER ≤ 24) × (CORRELATIONS ≡ ORDER + 1) }
 {
-    let ac = wire.read_floats::<CORRELATIONS>()?;
+    let ac = wire.read::<[f32; CORRELATIONS]>()?;
     let mut coefficients = [0.0f32; ORDER];
     celt_lpc(&mut coefficients, &ac).unwrap();
-    wire.write_all(&coefficients)
+    wire.write(coefficients)
 }
 
 fn answer_fir<const ORDER: usize>(wire: &mut Wire) -> io::Result<()>
     requires { ORDER ≤ 24 }
 {
-    let mut x = wire.read_floats::<1024>()?;
-    let num = wire.read_floats::<ORDER>()?;
-    let mem = wire.read_floats::<ORDER>()?;
+    let mut x = wire.read::<[f32; 1024]>()?;
+    let num = wire.read::<[f32; ORDER]>()?;
+    let mem = wire.read::<[f32; ORDER]>()?;
     celt_fir_inplace(&mut x, &num, &mem).unwrap();
-    wire.write_all(&x)
+    wire.write(x)
 }
 
 // Filters the first n samples; the rest stays.
 fn answer_iir(wire: &mut Wire) -> io::Result<()> {
     let n = LONGEST.min(wire.read()?);
-    let mut x = wire.read_floats::<LONGEST>()?;
-    let den = wire.read_floats()?;
-    let mem = wire.read_floats()?;
+    let mut x = wire.read::<[f32; LONGEST]>()?;
+    let den = wire.read()?;
+    let mem = wire.read()?;
     celt_iir_inplace(&mut x[..n], &den, &mem).unwrap();
-    wire.write_all(&x)
+    wire.write(x)
 }
 
 pub(crate) fn answer(wire: &mut Wire, op: u32) -> io::Result<bool> {
     match op {
-        201 => answer_autocorr(wire)?,
-        202 => answer_windowed(wire)?,
+        201 => wire.answer(|x: [f32; 1024]| celt_autocorr(&x))?,
+        202 => wire.answer_two(|x: [f32; 1024], w: [f32; 120]| celt_autocorr_windowed(&x, &w))?,
         203 => answer_lpc::<24, 25>(wire)?,
         204 => answer_lpc::<4, 5>(wire)?,
         205 => answer_fir::<24>(wire)?,

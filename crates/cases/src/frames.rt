@@ -11,17 +11,17 @@ fn answer_frame(wire: &mut Wire) -> io::Result<()> {
     let n = FRAME_MOST.min(frame_size(wire.read()?));
     let channels: u32 = wire.read()?;
     let downsample = wire.read()?;
-    let memories = wire.read_floats()?;
-    let first = wire.read_floats::<FRAME_MOST>()?;
-    let second = wire.read_floats::<FRAME_MOST>()?;
+    let memories = wire.read()?;
+    let first = wire.read::<[f32; FRAME_MOST]>()?;
+    let second = wire.read::<[f32; FRAME_MOST]>()?;
     let mut pcm = [0.0f32; 2 * FRAME_MOST];
     let after = if channels == 2 {
         deemphasis_stereo(&first[..n], &second[..n], memories, downsample, &mut pcm)
     } else {
         deemphasis_mono(&first[..n], memories, downsample, &mut pcm)
     };
-    wire.write_all(&pcm)?;
-    wire.write_all(&after.unwrap_or(memories))
+    wire.write(pcm)?;
+    wire.write(after.unwrap_or(memories))
 }
 
 pub(crate) fn answer(wire: &mut Wire, op: u32) -> io::Result<bool> {

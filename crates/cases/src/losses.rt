@@ -25,7 +25,7 @@ fn answer_call(wire: &mut Wire) -> io::Result<()> {
     let mut decoder = read_decoder(wire, BYTES)?;
     let mut pcm = [0.0f32; PCM];
     wire.write_all(&decoder.call(n, &mut pcm, p))?;
-    wire.write_all(&pcm)?;
+    wire.write(pcm)?;
     wire.write_bytes(&decoder.record())
 }
 

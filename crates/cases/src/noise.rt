@@ -19,7 +19,7 @@ fn answer_block(wire: &mut Wire) -> io::Result<()> {
         downsample: wire.read()?,
     };
     let seed = wire.read()?;
-    let energies = wire.read_floats::<MAX_BANDS>()?;
+    let energies = wire.read::<[f32; MAX_BANDS]>()?;
     let mut block = [0.0f32; BLOCK_MOST];
     let n = FRAME_MOST.min(frame_size(lm));
     let after = noise_block(
@@ -29,7 +29,7 @@ fn answer_block(wire: &mut Wire) -> io::Result<()> {
         seed,
         &energies,
     );
-    wire.write_all(&block)?;
+    wire.write(block)?;
     wire.write(after.unwrap_or(seed))
 }
 
@@ -42,8 +42,7 @@ fn answer_channel(wire: &mut Wire) -> io::Result<()> {
         downsample: wire.read()?,
     };
     let seed = wire.read()?;
-    let mut energies = [0.0f32; 2 * MAX_BANDS];
-    wire.read_all(&mut energies[..MAX_BANDS])?;
+    let energies = wire.read_first(MAX_BANDS)?;
     let mut h = wire.read_channel()?;
     let after = noise_loss(k, &mut h, seed, energies);
     wire.write_channel(&h)?;
@@ -56,8 +55,8 @@ fn answer_energies(wire: &mut Wire) -> io::Result<()> {
     let start = wire.read()?;
     let end = wire.read()?;
     let count = wire.read()?;
-    let coarse = wire.read_floats()?;
-    wire.write_all(&lower_energies(coarse, channels, start, end, count))
+    let coarse = wire.read()?;
+    wire.write(lower_energies(coarse, channels, start, end, count))
 }
 
 pub(crate) fn answer(wire: &mut Wire, op: u32) -> io::Result<bool> {

@@ -31,8 +31,7 @@ fn read_pitch(wire: &mut Wire) -> io::Result<Pitch> {
     let first = wire.read::<u32>()? == 1;
     let lag = wire.read()?;
     let filter = read_filter(wire)?;
-    let mut predictor = [0.0f32; 2 * ORDER];
-    wire.read_all(&mut predictor[..ORDER])?;
+    let predictor = wire.read_first(ORDER)?;
     Ok(Pitch {
         lag,
         first,
@@ -41,7 +40,8 @@ fn read_pitch(wire: &mut Wire) -> io::Result<Pitch> {
     })
 }
 
-// A first loss fits its predictor from the history; a later one goes by what it was given. A refused loss leaves the history as it is.
+// A first loss fits its predictor from the history; a later one goes by what it was given. A refused loss leaves the history as
+// it is.
 fn answer_loss(wire: &mut Wire) -> io::Result<()> {
     let k = mono(wire.read()?);
     let mut pitch = read_pitch(wire)?;

@@ -2,19 +2,18 @@
 ghost use Rattle.std.specs.Prelude.{◌≤◌};
 
 use crate::streams::Wire;
-use history::{CHANNEL, HALF, SAMPLES, WHOLE};
+use history::{CHANNEL, HALF, SAMPLES, SECOND_END, WHOLE};
 use pitch_lag::find_lag;
 use plc_best::find_best_pitch;
 use plc_downsample::pitch_downsample;
 use plc_search::pitch_search;
 use std::io;
 
-// The samples of each used channel, without its overlap.
+// The samples of each used channel, without its overlap. Here and below `two` is what the operation's number has answered.
 fn read_samples(wire: &mut Wire, two: bool) -> io::Result<[f32; WHOLE]> {
-    let mut h = [0.0f32; WHOLE];
-    wire.read_all(&mut h[..SAMPLES])?;
+    let mut h: [f32; WHOLE] = wire.read_first(SAMPLES)?;
     if two {
-        wire.read_all(&mut h[CHANNEL..CHANNEL + SAMPLES])?;
+        wire.read_all(&mut h[CHANNEL..SECOND_END])?;
     }
     Ok(h)
 }
@@ -22,9 +21,9 @@ fn read_samples(wire: &mut Wire, two: bool) -> io::Result<[f32; WHOLE]> {
 fn answer_downsampled(wire: &mut Wire, two: bool) -> io::Result<()> {
     let h = read_samples(wire, two)?;
     let mut low = [0.0f32; HALF];
-    let second = two.then_some(&h[CHANNEL..CHANNEL + SAMPLES]);
+    let second = two.then_some(&h[CHANNEL..SECOND_END]);
     pitch_downsample(&h[0..SAMPLES], second, &mut low).unwrap();
-    wire.write_all(&low)
+    wire.write(low)
 }
 
 fn answer_best<const PLACES: usize, const REACHED: usize>(
@@ -33,18 +32,13 @@ fn answer_best<const PLACES: usize, const REACHED: usize>(
 ) -> io::Result<bool>
     requires { (PLACES ≤ 310) × (REACHED ≤ 1024) }
 {
-    let xcorr = wire.read_floats::<PLACES>()?;
-    let y = wire.read_floats::<REACHED>()?;
+    let xcorr = wire.read::<[f32; PLACES]>()?;
+    let y = wire.read::<[f32; REACHED]>()?;
     match find_best_pitch(&xcorr, &y, len) {
         Some((best, second)) => wire.write_all(&[best, second])?,
         None => return Ok(false),
     }
     Ok(true)
-}
-
-fn answer_search(wire: &mut Wire) -> io::Result<()> {
-    let y = wire.read_floats()?;
-    wire.write(pitch_search(&y))
 }
 
 fn answer_lag(wire: &mut Wire, two: bool) -> io::Result<()> {
@@ -58,7 +52,7 @@ pub(crate) fn answer(wire: &mut Wire, op: u32) -> io::Result<bool> {
         302 => answer_downsampled(wire, true)?,
         303 => return answer_best::<155, 487>(wire, 332),
         304 => return answer_best::<310, 1024>(wire, 664),
-        305 => answer_search(wire)?,
+        305 => wire.answer(|y: [f32; HALF]| pitch_search(&y))?,
         306 => answer_lag(wire, false)?,
         307 => answer_lag(wire, true)?,
         _ => return Ok(false),

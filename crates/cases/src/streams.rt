@@ -1,4 +1,6 @@
 // Words and floats on standard input and output. What is read past the end of the input is 0.
+ghost use Rattle.std.specs.Prelude.{◌≤◌};
+
 use float_bits::words::Word;
 use history::{CHANNEL, WHOLE};
 use std::alloc::Global;
@@ -43,7 +45,7 @@ impl Value for f64 {
     }
 }
 
-// One word: every number that is written fits it.
+// One word: every number that is written fits it, which no contract here says.
 impl Value for usize {
     fn read(wire: &mut Wire) -> Result<usize> {
         Ok(u32::read(wire)? as usize)
@@ -51,6 +53,17 @@ impl Value for usize {
 
     fn write(self, wire: &mut Wire) -> Result<()> {
         ((self % 0x1_0000_0000) as u32).write(wire)
+    }
+}
+
+// One after the other.
+impl<const N: usize> Value for [f32; N] {
+    fn read(wire: &mut Wire) -> Result<[f32; N]> {
+        wire.read_first(N)
+    }
+
+    fn write(self, wire: &mut Wire) -> Result<()> {
+        wire.write_all(&self)
     }
 }
 
@@ -82,6 +95,7 @@ impl Wire {
         Ok(b.len())
     }
 
+    // Beside `read_first`: bytes go by `fill`, which says where the input ends.
     fn bytes<const N: usize>(&mut self) -> Result<[u8; N]> {
         let mut b = [0u8; N];
         self.fill(&mut b)?;
@@ -106,17 +120,18 @@ impl Wire {
         Ok(())
     }
 
-    pub(crate) fn read_floats<const N: usize>(&mut self) -> Result<[f32; N]> {
+    // Floats of which the first n come; the rest is 0.
+    pub(crate) fn read_first<const N: usize>(&mut self, n: usize) -> Result<[f32; N]>
+        requires { n ≤ N }
+    {
         let mut x = [0.0f32; N];
-        self.read_all(&mut x)?;
+        self.read_all(&mut x[..n])?;
         Ok(x)
     }
 
-    // A history of which the first channel comes; the rest is 0.
+    // A history of which the first channel comes.
     pub(crate) fn read_channel(&mut self) -> Result<[f32; WHOLE]> {
-        let mut h = [0.0f32; WHOLE];
-        self.read_all(&mut h[..CHANNEL])?;
-        Ok(h)
+        self.read_first(CHANNEL)
     }
 
     pub(crate) fn write_channel(&mut self, h: &[f32; WHOLE]) -> Result<()> {
@@ -146,7 +161,7 @@ impl Wire {
         self.write(f(x))
     }
 
-    // Answers two values by what f makes of them.
+    // Answers two values by what f makes of them; apart, since a closure that takes two takes no pair.
     pub(crate) fn answer_two<A: Value, B: Value, C: Value, F: Fn(A, B) -> C>(
         &mut self,
         f: F,

@@ -24,20 +24,20 @@ fn answer_entry<V: Value>(wire: &mut Wire, table: &[V]) -> io::Result<bool> {
 fn answer_sum<const BINS: usize, const SAMPLES: usize>(wire: &mut Wire) -> io::Result<()>
     requires { (BINS ≤ 960) × (is_frame_size BINS ≡ true) × (SAMPLES ≡ 2 * BINS) }
 {
-    let spectrum = wire.read_floats::<BINS>()?;
+    let spectrum = wire.read::<[f32; BINS]>()?;
     let mut out = [0.0f32; SAMPLES];
     imdct_naive_f32(&spectrum, &mut out).unwrap();
-    wire.write_all(&out)
+    wire.write(out)
 }
 
-// The same by half of the sums, which answers the number of products too.
+// The same by half of the sums, which answers the number of products too: a second function for that.
 fn answer_mirrored<const BINS: usize, const SAMPLES: usize>(wire: &mut Wire) -> io::Result<()>
     requires { (BINS ≤ 960) × (is_frame_size BINS ≡ true) × (SAMPLES ≡ 2 * BINS) }
 {
-    let spectrum = wire.read_floats::<BINS>()?;
+    let spectrum = wire.read::<[f32; BINS]>()?;
     let mut out = [0.0f32; SAMPLES];
     let products = imdct_mirrored_f32(&spectrum, &mut out).unwrap();
-    wire.write_all(&out)?;
+    wire.write(out)?;
     wire.write(products)
 }
 
