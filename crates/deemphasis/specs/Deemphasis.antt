@@ -85,8 +85,8 @@ pub record Room (downsample n room : ℕ) : Type 0 where
   pub even : n % downsample ≡ 0
   pub enough : n / downsample ≤ room
 
--- What a call leaves of the memories and of a PCM buffer lent to it. Where the lengths fit, the PCM stands in the buffer's first places;
--- the rest of a longer buffer is as it was.
+-- What a call leaves of the memories and of a PCM buffer lent to it. Where the lengths fit, the PCM stands in the buffer's first
+-- places; the rest of a longer buffer is as it was.
 unfoldable pub deemphasised : Bool → ℕ → List (List Float) → List Float → List Float → Reply Sound
 deemphasised fit downsample vs memories pcm =
     let s = deemphasis downsample vs memories in

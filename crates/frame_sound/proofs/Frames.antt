@@ -55,7 +55,8 @@ module _ (k : Settings) (good : check_settings k ≡ 0) (h : List Float) (l : le
     needs : (c : ℕ) → k.channels ≡ c → c * (frame k / k.downsample) ≤ length p
     needs c e = subst (λ z. z * (frame k / k.downsample) ≤ length p) e (subst (λ z. z ≤ length p) (needed-is k good) room)
 
-    pub mono-sound : stereo k ≡ false → {t : Bool} {y : Sound} → reply t y ≡ deemphasis_mono k.downsample (lent samples) m p → (t ≡ true) × (y ≡ sound_in p (frame_sound k m h))
+    pub mono-sound : stereo k ≡ false → {t : Bool} {y : Sound}
+        → reply t y ≡ deemphasis_mono k.downsample (lent samples) m p → (t ≡ true) × (y ≡ sound_in p (frame_sound k m h))
     unfolding deemphasis_mono deemphasised sound_in frame_sound newest stereo
     mono-sound c e =
         let one : k.channels ≡ 1 = omega (arith, passed k good, eqb-false k.channels 2 c) in
