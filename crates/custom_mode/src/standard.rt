@@ -5,7 +5,10 @@ ghost use Rattle.custom_mode.specs.Mode.{edge, mean, preemph};
 // The samples of the shortest block.
 pub const SHORT_BLOCK: usize = 120;
 
-// The shortest frame, of one such block, and the longest, of eight.
+// A frame has 2 ^ lm such blocks; the greatest lm.
+pub const LM_MOST: usize = 3;
+
+// The shortest frame, of one block, and the longest, of eight.
 pub const FRAME_LEAST: usize = SHORT_BLOCK;
 
 pub const FRAME_MOST: usize = 8 * SHORT_BLOCK;

@@ -1,5 +1,5 @@
 // The inverse transform as a direct sum, its cosines from a circle of them.
-ghost use Rattle.std.specs.Prelude.{◌≡◌, true, ℕ, ◌+◌, ◌*◌, ◌/◌, ◌%◌, ◌<◌, ◌≤◌, length, get_or};
+ghost use Rattle.std.specs.Prelude.{◌≡◌, true, ℕ, cond, ltb, ◌+◌, ◌-◌, ◌*◌, ◌/◌, ◌%◌, ◌<◌, ◌≤◌, length, get_or};
 ghost use Rattle.std.specs.Float.{nan, binary64};
 ghost use Rattle.std.specs.Float.Ieee.{add, mul};
 ghost use Rattle.loops.specs.Front.{tab};
@@ -15,7 +15,8 @@ use std::array::from_fn;
 
 // i, less than two turns, in a circle of w steps. Not `i % w`, which would ask for a w above 0, as no pub fn does.
 pub fn wrapped(i: usize, w: usize) -> usize
-    ensures { i < 2 * w → result ≡ i % w }
+    ensures value { result ≡ cond (ltb i w) i (i - w) }
+    ensures place { i < 2 * w → result ≡ i % w }
 {
     if i < w { i } else { i - w }
 }

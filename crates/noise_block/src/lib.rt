@@ -9,15 +9,12 @@ ghost use Rattle.noise_block.specs.Call.{block_takes};
 
 use block::window_outputs;
 use cosine_circle::FRAME_MOST;
-use custom_mode::standard::{MAX_BANDS, OVERLAP, SHORT_BLOCK};
+use custom_mode::standard::{LM_MOST, MAX_BANDS, OVERLAP, SHORT_BLOCK};
 use mdct_mirrored::imdct_mirrored_f32;
 use noise_spectrum::{Span, noise_spectrum};
 use reply::Refused;
 
 mod block;
-
-// As `settings` has it in 32 bits; here lm is a caller's plain count, and an lm past it is refused, where `sizes` takes it for 3.
-const LM_MOST: usize = 3;
 
 // The longest block: the longest frame and its overlap.
 pub const BLOCK_MOST: usize = FRAME_MOST + OVERLAP;

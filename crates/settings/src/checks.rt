@@ -5,7 +5,7 @@ ghost use Rattle.settings.specs.Settings.{check_end, check_downsample, check_set
 
 use crate::{Refusal, Settings};
 
-pub const LM_MOST: u32 = 3;
+pub const LM_MOST: u32 = custom_mode::standard::LM_MOST as u32;
 
 const CHANNELS_MOST: u32 = 2;
 

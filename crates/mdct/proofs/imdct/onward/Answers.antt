@@ -24,7 +24,7 @@ loop-j-preserved c =
     let r = tab-read _ 0 _ _ _ l.invariant (search rules) in
     let h = c.requires.by_index l.j (search rules) in
     tab-more _ 0 _ _ _ l.invariant _
-    (c.wrapped.ensures (omega arith) ∙ ap (λ z. (z + get_or a.step.now l.j 0) % a.w) r)
+    (c.wrapped.ensures.place (omega arith) ∙ ap (λ z. (z + get_or a.step.now l.j 0) % a.w) r)
     (search rules)
 
 pub returns : goal.returns

@@ -14,7 +14,7 @@ loop-place-preserved c =
     let l = c.loop-place in
     let r = tab-read _ 0 _ _ _ l.invariant (search rules) in
     let h = c.requires l.place-index (search rules) in
-    tab-more _ 0 _ _ _ l.invariant _ (c.wrapped.ensures (omega arith) ∙ ap (λ y. y % c.args.w) r) (search rules)
+    tab-more _ 0 _ _ _ l.invariant _ (c.wrapped.ensures.place (omega arith) ∙ ap (λ y. y % c.args.w) r) (search rules)
 
 pub returns : goal.returns
 returns c = tab-all _ 0 _ _ _ c.loop-place.invariant (search rules) ∙ ap (tab _) (search rules)
