@@ -30,7 +30,8 @@ fn answer_sum<const BINS: usize, const SAMPLES: usize>(wire: &mut Wire) -> io::R
     wire.write(out)
 }
 
-// The same by half of the sums, which answers the number of products too: a second function for that.
+// The same by half of the sums. Apart: one for both would take the step as a closure and its count of products as an
+// `Option`, and be longer than the two.
 fn answer_mirrored<const BINS: usize, const SAMPLES: usize>(wire: &mut Wire) -> io::Result<()>
     requires { (BINS ≤ 960) × (is_frame_size BINS ≡ true) × (SAMPLES ≡ 2 * BINS) }
 {

@@ -8,3 +8,4 @@ pub mod Logic
 pub mod Below
 pub mod Every
 pub mod Nan
+pub mod Made

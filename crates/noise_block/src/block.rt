@@ -15,6 +15,7 @@ pub(crate) fn window_outputs(block: &mut [f32], u: &[f32])
     let w = window();
     let n = u.len() / 2;
     let p = (n - OVERLAP) / 2;
+    // By number: the window goes by it, and the outputs from p on; of a zip with `iter_mut` a proof has the items alone.
     for (j, v) in block.iter_mut().enumerate() {
         *v = 2.0 * u[p + j] * low_overlap_window(&w, n, j);
     }

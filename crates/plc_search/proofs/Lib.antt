@@ -1,4 +1,3 @@
 -- laws that several proofs cite
 mod Finer
 mod Steps
-mod Made

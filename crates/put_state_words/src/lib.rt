@@ -58,7 +58,7 @@ fn put_state(w: &mut [u32; WORDS], s: State)
     put_both(&mut w[MEMORIES..], &s.memories, &s.predictor);
 }
 
-// The words of a state. No `From`: a caller's words are an array, and a type of ours around it would be no plainer.
+// The words of a state. No `From`: neither type is of this crate, and `state` knows nothing of words.
 pub fn to_words(s: State) -> [u32; WORDS]
     ensures { result ≡ state_words s }
 {

@@ -18,7 +18,8 @@ pub fn unless(passes: bool, e: Refusal) -> Result<(), Refusal>
     if passes { Ok(()) } else { Err(e) }
 }
 
-// Whether x lies from lo to hi. By name, where one library call would do: the checks' definitions have it as a word of theirs.
+// Whether x lies from lo to hi: one library call, under the name that the definitions give it. What it promised stays, and
+// is all that the checks' proofs cite.
 pub fn is_within(lo: u32, hi: u32, x: u32) -> bool
     ensures { result ≡ within lo hi x }
 {

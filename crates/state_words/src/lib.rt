@@ -56,7 +56,7 @@ fn floats_in<const N: usize>(w: &[u32; WORDS], i: usize) -> [f32; N]
     array::from_fn(|k| f32::from_word(w[i + k]))
 }
 
-// The state of a caller's words. No `From`: they are an array, and a type of ours around it would be no plainer.
+// The state of a caller's words. No `From`: neither type is of this crate, and `state` knows nothing of words.
 pub fn from_words(w: &[u32; WORDS]) -> State
     ensures { result ≡ state_in w.now }
 {

@@ -1,7 +1,7 @@
 use Rattle.std.proofs.Common.{rules}
 use lib.Ieee.{nan}
 use Rattle.plc_search.specs.Search.{every_second}
-use Rattle.plc_search.proofs.Made.{made}
+use Rattle.loops.specs.Made.{made}
 use Rattle.plc_search.proofs.every_second.Goals as goal
 
 pub returns : goal.returns

@@ -6,7 +6,7 @@ use Rattle.std.specs.Option.{option_or}
 use Rattle.buffers.specs.Buffers.{zero32}
 use Rattle.plc_search.specs.Rows.{near_at}
 use Rattle.plc_search.proofs.Finer.{fine-at}
-use Rattle.plc_search.proofs.Made.{made}
+use Rattle.loops.specs.Made.{made}
 use Rattle.plc_search.proofs.fine_row.Goals as goal
 
 pub returns : goal.returns

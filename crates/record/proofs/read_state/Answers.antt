@@ -3,7 +3,7 @@ use Rattle.std.proofs.Common.{ap, ◌∙◌, rules}
 use Rattle.loops.specs.Front.{get_or-tab}
 use Rattle.state_words.specs.Words.{state_length, state_in}
 use Rattle.state_words.proofs.Parts.{state-same}
-use Rattle.state_words.proofs.Made.{made}
+use Rattle.loops.specs.Made.{made}
 use Rattle.words.specs.Bytes.{word_at}
 use Rattle.record.specs.Record.{state_of}
 use Rattle.record.proofs.read_state.Goals as goal

@@ -2,7 +2,7 @@
 use Rattle.std.proofs.Common.{rules}
 use lib.Ieee.{nan}
 use Rattle.state_words.specs.Words.{floats_by}
-use Rattle.state_words.proofs.Made.{made}
+use Rattle.loops.specs.Made.{made}
 use Rattle.state_words.proofs.floats_in.Goals as goal
 
 pub returns : goal.returns
