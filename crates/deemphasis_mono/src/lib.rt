@@ -28,7 +28,8 @@ fn filter_mono(v: &[f32], memory: f32, downsample: usize, pcm: &mut [f32]) -> f3
     mem
 }
 
-// De-emphasis of one channel's samples; the other memory is carried.
+// De-emphasis of one channel's samples; the other memory is carried. Samples, memories, factor and PCM apart, as in all these
+// functions: what is read, carried and written has an owner each.
 pub fn deemphasis_mono(
     v: &[f32],
     memories: [f32; 2],

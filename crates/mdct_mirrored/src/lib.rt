@@ -21,7 +21,8 @@ struct Half<'a> {
 }
 
 impl Half<'_> {
-    // The pair of sums that output u of either half is made from: past the middle, the mirrored one.
+    // The pair of sums that output u of either half is made from: past the middle, the mirrored one. Here and in both halves u
+    // is asked to lie in a half: a struct for one number would be made at each call, and be no plainer.
     #[tactic(auto, using(std::proofs::lemmas::Bool::Decides::nat_tests))]
     fn pair(self, u: usize) -> usize
         requires { u < length self.sums.now }
