@@ -7,7 +7,7 @@ ghost use Rattle.buffers.specs.Buffers.{zero32, energy};
 ghost use Rattle.energy_guard.specs.Guard.{muted, guarded};
 
 // Whether the samples were zeroed.
-// A struct: a contract asks for the verdict by its name, where a bare bool would not say which it is.
+// A struct: the contract gives the verdict by its name, and a bare bool would not say which it is. The path of a loss reads none.
 #[derive(Clone, Copy)]
 pub struct Guarded {
     pub muted: bool,

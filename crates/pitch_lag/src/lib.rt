@@ -13,7 +13,7 @@ use plc_search::pitch_search;
 use reply::Refused;
 
 // What the search reads: the used channels' 2,048 samples at half the rate.
-// Here and below `two` answers a question: a bool, since a caller has it as a comparison, `channels == 2`.
+// Here and below `two` answers a question, `Settings::is_stereo`: a bool, since this step is handed no settings.
 fn low_pass(two: bool, history: &[f32; WHOLE]) -> [f32; HALF]
     ensures { result ≡ low_passed two history.now }
 {

@@ -13,7 +13,7 @@ use plc_pad::ORDER;
 use reply::Refused;
 
 // The used channels' coefficients fitted anew; an unused channel's are carried. Refused: a history not of 4,336 samples.
-// `two` answers a question: a bool, since a caller has it as a comparison, `channels == 2`.
+// `two` answers a question, `Settings::is_stereo`: a bool, since this step is handed no settings.
 pub fn fit_predictor(
     two: bool,
     history: &[f32],

@@ -1,10 +1,10 @@
 -- the sums of the autocorrelation, term by term
-use mathlib.Core.Path.{◌≡◌, ap, ◌∙◌, sym}
+use mathlib.Core.Path.{◌≡◌, ap, ap₂, ◌∙◌, sym}
 use mathlib.Core.List.{List}
-use Prim.Native.Nat.{ℕ, ◌+◌, ◌-◌, ◌≤◌, ◌<◌}
+use Prim.Native.Nat.{ℕ, ◌+◌, ◌-◌, ◌≤◌, ◌<◌, min}
 use native.Mathlib.Omega.{arith}
 use lib.ListN.{length, get_or, set}
-use Rattle.std.proofs.Common.{reverse, ext_get_or}
+use Rattle.std.proofs.Common.{reverse, ext_get_or, take, drop, length-take, length-drop, get_or-take, get_or-drop}
 use Rattle.std.proofs.lemmas.List.{get_or-reverse, length-reverse}
 use lib.Ieee.{Float, nan, binary32, add, mul}
 use Rattle.loops.specs.Front.{front, tab, tab-read, tab-more, get_or-tab, length-tab}
@@ -29,6 +29,22 @@ lag_more x lag i k s h ek e =
     ∙ ap (λ z. add binary32 s (mul binary32 (get_or x z nan) (get_or x (i - lag) nan))) p
     ∙ sum_more binary32 (lag_term x lag) zero32 s (i - lag) e
     ∙ ap (sum_to binary32 (lag_term x lag) zero32) q
+
+-- one more pair of the samples from lag on and those from the start
+pub zip_more : (x : List Float) (lag m k n : ℕ) (s a b : Float) → s ≡ lag_to x lag (lag + k) → k < length (take m (drop lag x))
+    → a ≡ get_or (take m (drop lag x)) k nan → b ≡ get_or x k nan → n ≡ k + 1 → add binary32 s (mul binary32 a b) ≡ lag_to x lag (lag + n)
+zip_more x lag m k n s a b e h p q r =
+    let g : k < m = omega (arith, h, length-take m (drop lag x)) in
+    let i : lag + k + 1 ≡ lag + n = omega (arith, r) in
+    ap₂ (λ y z. add binary32 s (mul binary32 y z)) (p ∙ get_or-take m (drop lag x) k nan g ∙ get_or-drop lag x k nan) q
+    ∙ lag_more x lag (lag + k) k s (omega arith) (omega arith) e ∙ ap (lag_to x lag) i
+
+-- all pairs, as many as there are from lag to top
+pub zip_all : (x : List Float) (lag top k : ℕ) (s : Float) → s ≡ lag_to x lag (lag + k) → k ≡ min (length (take (top - lag) (drop lag x))) (length x)
+    → lag ≤ top → top ≤ length x → s ≡ lag_to x lag top
+zip_all x lag top k s e m h l =
+    let n : lag + k ≡ top = omega (arith, m, length-take (top - lag) (drop lag x), length-drop lag x) in
+    e ∙ ap (lag_to x lag) n
 
 -- one more lag's term at sample i
 pub row_more : (x : List Float) (n i j k : ℕ) (row₀ row : List Float) → row₀ ≡ lag_row x n i → row ≡ front (tab (row_at x n (i + 1)) j) row₀ j

@@ -17,16 +17,15 @@ fn first_terms(x: &[f32], row: &mut [f32])
     for (j, sum) in row.iter_mut().enumerate() {
         let lag = top - j;
         let mut d = 0.0f32;
-        // By place: sample i meets sample i - lag.
-        for i in lag..top {
-            d += x[i] * x[i - lag];
+        for (a, b) in x[lag..top].iter().zip(x) {
+            d += a * b;
         }
         *sum = d;
     }
 }
 
 // The other terms: at each sample one of every lag, so that the sums run side by side, each in its own order.
-// By place: the sums' earlier samples, one a lag, stand from top places before the sample on.
+// By place: a zip with `iter_mut` tells a proof the items, not the list that they leave.
 fn other_terms(x: &[f32], row: &mut [f32])
     requires { (0 < length row.old) × (length row.old ≤ length x.now) × (row.old ≡ lag_row x.now (length row.old) (length row.old - 1)) }
     ensures { row.new ≡ lag_row x.now (length row.old) (length x.now) }

@@ -26,7 +26,9 @@ fn padded(buf: &[f32], mem: &[f32]) -> [f32; ORDER + LONGEST]
 }
 
 // Adds to each of out's samples its taps in order; row by row, so that neighbouring samples run side by side.
-// By place: tap j stands j places before the sample. Also a zip with `iter_mut` tells a proof the items, not the list that they leave.
+// By place: a zip with `iter_mut` tells a proof the items, not the list that they leave.
+// The loop within is that of plc_correlate and of plc's autocorrelation too: one function for the three would be public,
+// and have to answer a list that is too short.
 fn add_taps(out: &mut [f32], num: &[f32], pad: &[f32])
     requires { (length num.now ≤ 24) × (length pad.now ≡ length out.old + 24) }
     ensures { out.new
