@@ -1,3 +1,5 @@
 -- laws that several proofs cite
 mod Turn
 pub mod Pairs
+-- the first so many of a row
+pub mod Counts
