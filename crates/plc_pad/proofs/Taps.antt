@@ -1,5 +1,5 @@
 -- the memory in a padded buffer, and what is read from it
-use mathlib.Core.Path.{◌≡◌, refl, ap, ◌∙◌, sym}
+use mathlib.Core.Path.{◌≡◌, refl, ap, ap₂, ◌∙◌, sym}
 use mathlib.Core.Bool.{Bool, true, false, cond}
 use mathlib.Core.List.{List, ◌++◌, reverse}
 use Prim.Native.Nat.{ℕ, zero, suc, ◌+◌, ◌-◌, ◌≤◌, ◌<◌}
@@ -7,12 +7,14 @@ use native.Mathlib.Omega.{arith}
 use lib.Dec.{eqb, ltb}
 use lib.ListN.{length, get_or, take, drop, set, length-set, length-drop, length-append, length-reverse, get_or-append, replicate, length-replicate}
 use lib.Seq.{get_or-take, get_or-drop, get_or-append-add, length-take-le, ext_get_or, get_or-set_same, get_or-set_other}
-use Rattle.std.proofs.lemmas.List.{get_or-reverse}
+use Rattle.std.proofs.lemmas.List.{get_or-reverse, get_or_default}
+use Rattle.std.proofs.lemmas.Slice.Zip.{length-zip, get_or-zip}
+use Rattle.std.specs.List.{zip}
 use lib.Ieee.{Float, nan, binary32, sub, mul}
 use borrow.Author.Tests.{eqb-true, eqb-false, ltb-true, ltb-false}
 use Rattle.std.proofs.lemmas.Bool.Decides.{nat_tests}
 use Rattle.loops.specs.Part.{put}
-use Rattle.loops.specs.Fold.{fold_to, fold_same, fold-keeps}
+use Rattle.loops.specs.Fold.{fold_to, fold_same, fold_more, fold-keeps}
 use Rattle.reply.specs.Reply.{reply, reply_if, reply-lent, reply-taken}
 use Rattle.plc_pad.specs.Past.{past}
 use Rattle.plc_pad.specs.Pad.{Remembers, Holds, remembered_to, remembered, pad_takes, tap, taps_taken}
@@ -161,3 +163,17 @@ taps-part den pad part i n x l e =
     ap (λ z. sub binary32 s (mul binary32 (get_or den j nan) z))
     (ap (λ z. get_or z (23 + 0 - j) nan) e ∙ get_or-take n (drop i pad) (23 + 0 - j) nan (omega arith)
     ∙ get_or-drop i pad (23 + 0 - j) nan ∙ ap (λ z. get_or pad z nan) p))
+
+-- the pair that taps and values, turned round, have at place k is one tap more
+pub tap_more : (den past : List Float) (x y d v : Float) (k n : ℕ) → y ≡ taps_taken den past 0 x k → length den ≡ 24 → length past ≡ 24
+    → k < length (zip den (reverse past)) → (d, v) ≡ get_or (zip den (reverse past)) k (d, v) → n ≡ k + 1
+    → sub binary32 y (mul binary32 d v) ≡ taps_taken den past 0 x n
+tap_more den past x y d v k n e l m h p q =
+    let g : k < 24 = omega (arith, h, length-zip den (reverse past), length-reverse past) in
+    let w : length past - 1 - k ≡ 23 + 0 - k = omega arith in
+    let z = p ∙ get_or-zip den (reverse past) k (d, v) (omega arith) (omega (arith, length-reverse past)) in
+    let a : d ≡ get_or den k nan = ap (λ u. u.0) z ∙ get_or_default den k d nan (omega arith) in
+    let b : v ≡ get_or past (23 + 0 - k) nan =
+    ap (λ u. u.1) z ∙ get_or_default (reverse past) k v nan (omega (arith, length-reverse past)) ∙ get_or-reverse past k nan (omega arith) ∙ ap (λ u. get_or past u nan) w in
+    ap₂ (λ s t. sub binary32 y (mul binary32 s t)) a b ∙ fold_more (λ (s : Float) (j : ℕ). sub binary32 s (tap den past 0 j)) x y k e
+    ∙ ap (taps_taken den past 0 x) (sym q)

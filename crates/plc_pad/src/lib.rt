@@ -34,9 +34,8 @@ pub fn less_taps(den: &[f32; ORDER], past: &[f32; ORDER], x: f32) -> f32
     ensures { result ≡ taps_taken den.now past.now 0 x order }
 {
     let mut y = x;
-    // By place: tap j stands j places before the most recent value.
-    for (j, d) in den.iter().enumerate() {
-        y = y - *d * past[NEWEST - j];
+    for (d, v) in den.iter().zip(past.iter().rev()) {
+        y = y - *d * *v;
     }
     y
 }
