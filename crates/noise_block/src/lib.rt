@@ -19,6 +19,7 @@ mod block;
 // The longest block: the longest frame and its overlap.
 pub const BLOCK_MOST: usize = FRAME_MOST + OVERLAP;
 
+// Not `block_factor` of `sizes`, which takes 32 bits: a cast, and the crates of the settings for one shift.
 fn factor(lm: usize) -> usize
     requires { lm ≤ 3 }
     ensures { (result ≡ 2 ^ lm) × (1 ≤ result) × (result ≤ 8) }
