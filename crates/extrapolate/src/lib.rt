@@ -31,6 +31,7 @@ fn fade_of(first: bool) -> f32
 }
 
 // The newest 24, the most recent first, as the filters' contracts count their memory.
+// A slice here and below, as a `Voice` has it: an array in that public struct would ask more of callers.
 fn most_recent(newest: &[f32]) -> [f32; ORDER]
     requires { length newest.now ≡ half }
     ensures { result ≡ recent newest.now }

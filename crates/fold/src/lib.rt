@@ -15,8 +15,8 @@ use reply::Refused;
 const LAST: usize = OVERLAP - 1;
 
 // Place k of the folded overlap: it shares its sum with the place as far from the other end.
-fn fold_at(w: &[f32; OVERLAP], x: &[f32], k: usize) -> f32
-    requires { (length x.now ≡ overlap) × (k < overlap) }
+fn fold_at(w: &[f32; OVERLAP], x: &[f32; OVERLAP], k: usize) -> f32
+    requires { k < overlap }
     ensures { result ≡ fold_at w.now x.now k }
 {
     let i = k.min(LAST - k);
@@ -29,9 +29,12 @@ pub fn fold_tail(over: &mut [f32], x: &[f32]) -> Result<(), Refused>
     ensures { replied result over.new
         ≡ reply_if (fold_takes (length over.old) (length x.now)) (folded window x.now) over.old }
 {
-    if over.len() != OVERLAP || x.len() != OVERLAP {
+    if over.len() != OVERLAP {
         return Err(Refused);
     }
+    let Ok(x) = <&[f32; OVERLAP]>::try_from(x) else {
+        return Err(Refused);
+    };
     let w = celt_window::window();
     // By place: each reads x and the window from both ends.
     for (k, place) in over.iter_mut().enumerate() {

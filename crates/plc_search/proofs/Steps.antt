@@ -75,6 +75,11 @@ coarse-pair y x4 y4 xc h e1 e2 e3 e4 =
     found (take 155 xc) y4 332 155 (first_count (correlation x4 y4 (length x4)) xc 155 156 (omega arith) e3) (omega arith) e4
     ∙ ap (λ z. Some (z.first.at, z.second.at)) (coarse-done y x4 y4 xc h e1 e2 e3)
 
+pub coarse-found : {r : Option (ℕ × ℕ)} {p : ℕ × ℕ} (y x4 y4 xc : List Float) → length y ≡ 1024 → x4 ≡ every_second (take 664 (drop 360 y)) 332
+    → y4 ≡ every_second y 487 → xc ≡ tab (correlation x4 y4 (length x4)) 156 → r ≡ best_pitches (take 155 xc) y4 332 (length (take 155 xc)) → r ≡ Some p
+    → p ≡ ((coarse_best y).first.at, (coarse_best y).second.at)
+coarse-found y x4 y4 xc h e1 e2 e3 e4 q = same_Some _ _ (sym q ∙ coarse-pair y x4 y4 xc h e1 e2 e3 e4)
+
 coarse-within : (y : List Float) → Within 155 (coarse_best y)
 unfolding coarse_best
 coarse-within y = best-within (coarse y) (every_second y 487) 332 155 (omega arith)

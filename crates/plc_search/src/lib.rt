@@ -44,67 +44,74 @@ fn every_second<const N: usize>(x: &[f32]) -> [f32; N]
     array::from_fn(|j| x[2 * j])
 }
 
-// The first place within 2 of twice b.
-fn first_near(b: usize) -> usize
-    requires { b ≤ 154 }
-    ensures { result ≡ 2 * b - 2 }
-{
-    (2 * b).saturating_sub(2)
+// A place at quarter rate.
+#[derive(Clone, Copy)]
+struct Coarse {
+    at: usize,
+    ghost below: { at ≤ 154 },
 }
 
-// Five correlations at half rate, which hold all those within 2 of twice b.
+impl Coarse {
+    // The first place at half rate within 2 of twice this one.
+    fn first_near(self) -> usize
+        ensures { result ≡ 2 * self.at - 2 }
+    {
+        (2 * self.at).saturating_sub(2)
+    }
+}
+
+// Five correlations at half rate, which hold all those within 2 of twice the place.
 #[derive(Clone, Copy)]
 struct Near {
-    b: usize,
+    place: Coarse,
     row: [f32; 5],
-    ghost coarse: { b ≤ 154 },
 }
 
 impl Near {
-    fn around(y: &[f32; HALF], b: usize) -> Near
-        requires { b ≤ 154 }
-        ensures place { result.b ≡ b }
-        ensures values { result.row ≡ near_row y.now b }
+    fn around(y: &[f32; HALF], place: Coarse) -> Near
+        ensures place { result.place.at ≡ place.at }
+        ensures values { result.row ≡ near_row y.now place.at }
     {
-        let lo = first_near(b);
+        let lo = place.first_near();
         let mut row = [0.0f32; 5];
         correlate(&y[LATER..], &y[lo..], &mut row).unwrap();
-        Near { b, row }
+        Near { place, row }
     }
 
     // What stands there for place i, where i is near.
     #[tactic(auto, unfolding(crate::specs::Rows::near_at, crate::specs::Search::near))]
     fn at(&self, i: usize) -> Option<f32>
         requires { i < 310 }
-        ensures { result ≡ near_at self.now.row self.now.b i }
+        ensures { result ≡ near_at self.now.row self.now.place.at i }
     {
-        if 2 * self.b <= i + 2 && i <= 2 * self.b + 2 {
-            Some(self.row[i - first_near(self.b)])
+        let b = self.place.at;
+        if 2 * b <= i + 2 && i <= 2 * b + 2 {
+            Some(self.row[i - self.place.first_near()])
         } else {
             None
         }
     }
 }
 
-// The finer correlations around twice b0 and twice b1; 0 elsewhere.
-fn fine_row(y: &[f32; HALF], b0: usize, b1: usize) -> [f32; PLACES]
-    requires { (b0 ≤ 154) × (b1 ≤ 154) }
-    ensures { result ≡ tab (fine_at y.now b0 b1) 310 }
+// The finer correlations around twice the one and twice the other; 0 elsewhere.
+fn fine_row(y: &[f32; HALF], first: Coarse, second: Coarse) -> [f32; PLACES]
+    ensures { result ≡ tab (fine_at y.now first.at second.at) 310 }
 {
-    let near0 = Near::around(y, b0);
-    let near1 = Near::around(y, b1);
+    let near0 = Near::around(y, first);
+    let near1 = Near::around(y, second);
     array::from_fn(|i| near0.at(i).or(near1.at(i)).unwrap_or(0.0))
 }
 
 // The two best places at quarter rate.
-fn coarse_best(y: &[f32; HALF]) -> (usize, usize)
-    ensures { result ≡ ((coarse_best y.now).first.at, (coarse_best y.now).second.at) }
+fn coarse_best(y: &[f32; HALF]) -> (Coarse, Coarse)
+    ensures { (result.0.at ≡ (coarse_best y.now).first.at) × (result.1.at ≡ (coarse_best y.now).second.at) }
 {
     let x4: [f32; COMPARED4] = every_second(&y[LATER..]);
     let y4: [f32; SAMPLES4] = every_second(y);
     let mut xcorr = [0.0f32; PLACES4 + 1];
     correlate(&x4, &y4, &mut xcorr).unwrap();
-    find_best_pitch(&xcorr[..PLACES4], &y4, COMPARED4).unwrap()
+    let (first, second) = find_best_pitch(&xcorr[..PLACES4], &y4, COMPARED4).unwrap();
+    (Coarse { at: first }, Coarse { at: second })
 }
 
 // Twice p, less 1 where the correlation after it comes close to its own, plus 1 where the one before it does.
@@ -139,8 +146,8 @@ fn refine(xcorr: &[f32; PLACES], p: usize) -> usize
 pub fn pitch_search(y: &[f32; HALF]) -> usize
     ensures { result ≡ pitch_search y.now }
 {
-    let (b0, b1) = coarse_best(y);
-    let xcorr = fine_row(y, b0, b1);
+    let (first, second) = coarse_best(y);
+    let xcorr = fine_row(y, first, second);
     let (best, _) = find_best_pitch(&xcorr, y, COMPARED).unwrap();
     refine(&xcorr, best)
 }

@@ -13,4 +13,4 @@ place w x k i =
 
 pub returns : goal.returns
 unfolding fold_at place
-returns c = ap (place c.args.w.now c.args.x.now c.args.k) (nearer c.args.k _ c.min-i.ensures c.requires.1)
+returns c = ap (place c.args.w.now c.args.x.now c.args.k) (nearer c.args.k _ c.min-i.ensures c.requires)

@@ -1,7 +1,9 @@
-use Rattle.std.proofs.Common.{arith}
+use Rattle.std.proofs.Common.{◌≡◌, ap, ◌∙◌, arith, rules}
 use Rattle.std.specs.Float.{nan}
 use Rattle.loops.specs.Front.{tab-none, tab-more}
 use Rattle.reply.specs.Reply.{reply-yes}
+use Rattle.celt_window.specs.Window.{window}
+use Rattle.fold.specs.Fold.{folded}
 use Rattle.fold.proofs.Laws.{fold-yes, folded-all}
 use Rattle.fold.proofs.fold_tail.Goals as goal
 
@@ -13,5 +15,6 @@ loop-k-preserved c = tab-more _ nan _ _ _ c.loop-k.invariant _ c.fold_at.ensures
 
 pub returns : goal.returns
 returns c =
-    reply-yes _ _ _ (fold-yes _ _ c.if-over-ne-OVERLAP.false c.if-x-ne-OVERLAP.false)
-    (folded-all _ _ _ _ _ _ c.loop-k.invariant (omega arith) c.if-over-ne-OVERLAP.false c.window-w.ensures)
+    let x : c.in-Ok.x.now ≡ c.args.x.now = search rules in
+    reply-yes _ _ _ (fold-yes _ _ c.if-over-ne-OVERLAP.false (search rules))
+    (folded-all _ _ _ _ _ _ c.loop-k.invariant (omega arith) c.if-over-ne-OVERLAP.false c.window-w.ensures ∙ ap (folded window) x)

@@ -1,10 +1,9 @@
-use Rattle.plc_search.proofs.Steps.{coarse-row, coarse-taken, coarse-pair, first_count}
-use mathlib.Core.Path.{refl, ap, ◌∙◌, sym}
+use Rattle.plc_search.proofs.Steps.{coarse-row, coarse-taken, coarse-pair, coarse-found, coarse-least, first_count}
+use mathlib.Core.Path.{refl, ap, sym}
 use native.Mathlib.Omega.{arith}
 use borrow.Author.Rules.{rules}
 use lib.ListN.{replicate}
 use Rattle.std.specs.Prelude.{is_some}
-use Rattle.std.proofs.lemmas.Option.{same_Some}
 use Rattle.buffers.specs.Buffers.{zero32}
 use Rattle.plc_search.proofs.coarse_best.Goals as goal
 
@@ -17,16 +16,32 @@ slice_bounds-find_best_pitch-end c =
     let e2 = c.every_second-y4.ensures in
     sym (first_count _ _ 155 156 (omega arith) (coarse-row _ _ (replicate 156 zero32) e1 e2 refl c.correlate.ensures))
 
-pub unwrap-requires-2 : goal.unwrap-requires-2
-unwrap-requires-2 c =
+pub unwrap-first-requires : goal.unwrap-first-requires
+unwrap-first-requires c =
     let e1 = c.every_second-x4.ensures in
     let e2 = c.every_second-y4.ensures in
     ap is_some (coarse-pair _ _ _ _ (search rules) e1 e2 (coarse-row _ _ (replicate 156 zero32) e1 e2 refl c.correlate.ensures) c.find_best_pitch.ensures)
+
+pub invariant_of-result : goal.invariant_of-result
+invariant_of-result c =
+    let e1 = c.every_second-x4.ensures in
+    let e2 = c.every_second-y4.ensures in
+    let row = coarse-row _ _ (replicate 156 zero32) e1 e2 refl c.correlate.ensures in
+    let e = coarse-found c.args.y.now _ _ _ (search rules) e1 e2 row c.find_best_pitch.ensures c.unwrap-first.ensures in
+    record { below = (coarse-least c.args.y.now e).0 }
+
+pub invariant_of-result-2 : goal.invariant_of-result-2
+invariant_of-result-2 c =
+    let e1 = c.every_second-x4.ensures in
+    let e2 = c.every_second-y4.ensures in
+    let row = coarse-row _ _ (replicate 156 zero32) e1 e2 refl c.correlate.ensures in
+    let e = coarse-found c.args.y.now _ _ _ (search rules) e1 e2 row c.find_best_pitch.ensures c.unwrap-first.ensures in
+    record { below = (coarse-least c.args.y.now e).1 }
 
 pub returns : goal.returns
 returns c =
     let e1 = c.every_second-x4.ensures in
     let e2 = c.every_second-y4.ensures in
-    same_Some _ _
-    (sym c.unwrap-2.ensures
-    ∙ coarse-pair _ _ _ _ (search rules) e1 e2 (coarse-row _ _ (replicate 156 zero32) e1 e2 refl c.correlate.ensures) c.find_best_pitch.ensures)
+    let row = coarse-row _ _ (replicate 156 zero32) e1 e2 refl c.correlate.ensures in
+    let e = coarse-found c.args.y.now _ _ _ (search rules) e1 e2 row c.find_best_pitch.ensures c.unwrap-first.ensures in
+    (ap (λ z. z.0) e, ap (λ z. z.1) e)

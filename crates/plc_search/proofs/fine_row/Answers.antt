@@ -15,6 +15,6 @@ returns c =
     let n = c.around-near1 in
     made _ _ _ 310
     (λ i y q l k.
-    let e : y ≡ unwrap_or (option_or (near_at m.result.row m.result.b i) (near_at n.result.row n.result.b i)) zero32 = search (rules, of_calls, k) in
+    let e : y ≡ unwrap_or (option_or (near_at m.result.row m.result.place.at i) (near_at n.result.row n.result.place.at i)) zero32 = search (rules, of_calls, k) in
     (e ∙ fine-at _ _ _ _ _ _ _ _ m.ensures.place n.ensures.place m.ensures.values n.ensures.values refl refl, search (rules, k)))
     nan _ c.from_fn.ensures.items

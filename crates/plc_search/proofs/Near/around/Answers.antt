@@ -8,9 +8,9 @@ use Rattle.plc_search.proofs.Near.around.Goals as goal
 pub unwrap-requires : goal.unwrap-requires
 unwrap-requires c =
     let a = c.args in
-    near-taken a.y.now (search rules) (replicate 5 zero32) a.b _ c.first_near-lo.ensures (search rules) refl c.correlate.ensures
+    near-taken a.y.now (search rules) (replicate 5 zero32) a.place.at _ c.first_near-lo.ensures (search rules) refl c.correlate.ensures
 
 pub returns-clause-values : goal.returns-clause-values
 returns-clause-values c =
     let a = c.args in
-    near-row a.y.now (search rules) (replicate 5 zero32) a.b _ c.first_near-lo.ensures (search rules) refl c.correlate.ensures
+    near-row a.y.now (search rules) (replicate 5 zero32) a.place.at _ c.first_near-lo.ensures (search rules) refl c.correlate.ensures
