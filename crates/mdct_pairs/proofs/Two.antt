@@ -1,12 +1,14 @@
 -- A turn of `lanes::four`: with two inputs every lane goes two steps on and is taken back into the circle, and each sum gets two terms more.
 use mathlib.Core.Path.{◌≡◌, refl, ap, ◌∙◌}
 use mathlib.Core.Bool.{true}
-use mathlib.Core.List.{List}
-use Prim.Native.Nat.{ℕ, ◌+◌, ◌≤◌, ◌<◌, ◌*◌, ◌/◌, ◌%◌}
+use mathlib.Core.List.{List, [], ◌∷◌}
+use Prim.Native.Nat.{ℕ, zero, suc, ◌+◌, ◌≤◌, ◌<◌, ◌*◌, ◌/◌, ◌%◌}
 use native.Mathlib.Omega.{arith}
-use lib.ListN.{length, get_or}
+use lib.ListN.{length, get_or, drop}
 use lib.Ieee.{Float, nan, binary64, add, mul}
-use Rattle.loops.specs.Front.{tab, length-tab}
+use Rattle.std.specs.Simd.{first_chunks}
+use Rattle.std.proofs.lemmas.List.{get_or-take, get_or-drop}
+use Rattle.loops.specs.Front.{tab, tab-same, length-tab}
 use Rattle.cosine_circle.specs.Circle.{is_frame_size}
 use Rattle.cosine_circle.proofs.Sizes.{Size, sized, few}
 use Rattle.mdct.specs.Imdct.{imdct_sum}
@@ -18,7 +20,7 @@ use Rattle.mdct_pairs.proofs.PairLanes.{step_of, first_on, second-on, third-on, 
 
 -- ---- lengths of what is lent
 
-inputs-count : (xs inputs : List Float) → inputs ≡ inputs_of xs → length inputs ≡ 2 * length xs
+pub inputs-count : (xs inputs : List Float) → inputs ≡ inputs_of xs → length inputs ≡ 2 * length xs
 unfolding inputs_of
 inputs-count xs inputs e = ap length e ∙ length-tab _ _
 
@@ -32,13 +34,39 @@ two-more h n g = omega arith
 pub short-step : (t n : ℕ) → n ≤ 960 → 2 * t + 8 ≤ n → 2 * (2 * t + 1 + n) < 8000
 short-step t n h g = omega arith
 
--- the next sum e, and the next four pairs of sums, from inputs i and i + 1
-abbrev pub term_of : List Float → List Float → ℕ → List ℕ → List Float → ℕ → Float
-term_of pairs inputs i at acc e =
-    add binary64 (get_or acc e nan) (mul binary64 (get_or inputs (i + e % 2) nan) (get_or pairs (get_or at (e / 2) 0 + e % 2) nan))
+-- the next sum e, and the next four pairs of sums, from two inputs
+abbrev pub term_of : List Float → List Float → List ℕ → List Float → ℕ → Float
+term_of pairs two at acc e =
+    add binary64 (get_or acc e nan) (mul binary64 (get_or two (e % 2) nan) (get_or pairs (get_or at (e / 2) 0 + e % 2) nan))
 
-abbrev pub termed : List Float → List Float → ℕ → List ℕ → List Float → List Float
-termed pairs inputs i at acc = tab (term_of pairs inputs i at acc) 8
+abbrev pub termed : List Float → List Float → List ℕ → List Float → List Float
+termed pairs two at acc = tab (term_of pairs two at acc) 8
+
+-- two of the inputs, from the one numbered i on
+abbrev Two : List Float → ℕ → List Float → Type 0
+Two inputs i two = (j : ℕ) → j < 2 → get_or two j nan ≡ get_or inputs (i + j) nan
+
+terms : (pairs inputs two : List Float) (i : ℕ) (at : List ℕ) (acc : List Float) → Two inputs i two
+    → termed pairs two at acc
+    ≡ tab (λ (e : ℕ). add binary64 (get_or acc e nan)
+    (mul binary64 (get_or inputs (i + e % 2) nan) (get_or pairs (get_or at (e / 2) 0 + e % 2) nan))) 8
+terms pairs inputs two i at acc t =
+    tab-same _ _ 8
+    (λ e h. ap (λ y. add binary64 (get_or acc e nan) (mul binary64 y (get_or pairs (get_or at (e / 2) 0 + e % 2) nan))) (t (e % 2) (omega arith)))
+
+-- input j of the four numbered h
+pub of-four : (k h j : ℕ) (xs : List Float) → h < k → j < 4 → get_or (get_or (first_chunks 4 k xs) h []) j nan ≡ get_or xs (4 * h + j) nan
+of-four zero h j xs l m = let z : ⊥ = omega arith in absurd z
+of-four (suc k) zero j xs l m = let e : j ≡ 4 * 0 + j = omega arith in get_or-take 4 xs j nan m ∙ ap (λ z. get_or xs z nan) e
+of-four (suc k) (suc h) j xs l m =
+    let e : 4 + (4 * h + j) ≡ 4 * suc h + j = omega arith in
+    of-four k h j (drop 4 xs) (omega arith) m ∙ get_or-drop 4 xs (4 * h + j) nan ∙ ap (λ z. get_or xs z nan) e
+
+pub two-of : (inputs : List Float) (h s : ℕ) (a b : Float) → a ≡ get_or inputs (4 * h + s) nan → b ≡ get_or inputs (4 * h + (s + 1)) nan
+    → Two inputs (4 * h + s) (a ∷ b ∷ [])
+two-of inputs h s a b p q zero l = let e : 4 * h + s ≡ 4 * h + s + 0 = omega arith in p ∙ ap (λ z. get_or inputs z nan) e
+two-of inputs h s a b p q (suc zero) l = let e : 4 * h + (s + 1) ≡ 4 * h + s + 1 = omega arith in q ∙ ap (λ z. get_or inputs z nan) e
+two-of inputs h s a b p q (suc (suc j)) l = let z : ⊥ = omega arith in absurd z
 
 -- sum j of the frame
 abbrev pub pair_sum : ℕ → List Float → ℕ → Float
@@ -63,6 +91,10 @@ pub turn : (s : Tables) {t h : ℕ} {at : List ℕ} {acc : List Float} → 2 * t
     → Turn s.x.now s.pairs.now s.inputs.now t h at acc
 turn s r m a e = record { frame = s.frame; tables = (s.pairs_value, s.inputs_value); room = r; more = m; at_is = a; acc_is = e }
 
+-- of as many fours as there are
+pub more-left : (s : Tables) {h : ℕ} (k : ℕ) → k ≡ length s.inputs.now / 4 → h < k → h < length s.x.now / 2
+more-left s k e g = let i = inputs-count s.x.now s.inputs.now s.inputs_value in omega arith
+
 module _ {xs pairs inputs : List Float} {t h : ℕ} {at : List ℕ} {acc : List Float} (w : Turn xs pairs inputs t h at acc) where
   abbrev n : ℕ
   n = length xs
@@ -82,9 +114,6 @@ module _ {xs pairs inputs : List Float} {t h : ℕ} {at : List ℕ} {acc : List 
   pub pairs-in : length pairs ≤ 11520
   pairs-in = omega (arith, pairs-count n pairs w.tables.0, few n w.frame)
 
-  pub inputs-in : (i : ℕ) → i + 2 ≤ 4 * h + 4 → i + 2 ≤ length inputs
-  inputs-in i g = omega (arith, left, inputs-count xs inputs w.tables.1)
-
   in_pairs : (b : List ℕ) → ((j : ℕ) → j < 4 → get_or b j 0 + 2 ≤ 12 * n) → (j : ℕ) → j < 4 → get_or b j 0 + 2 ≤ length pairs
   in_pairs b g j i = omega (arith, pairs-count n pairs w.tables.0, g j i)
 
@@ -95,11 +124,11 @@ module _ {xs pairs inputs : List Float} {t h : ℕ} {at : List ℕ} {acc : List 
   small = before n t size w.room (2 * h) _ _ w.at_is 16000 (first_small n t size w.room (2 * h))
 
   -- after the first input
-  module _ (to : List Float) (d : to ≡ termed pairs inputs (4 * h) at acc) where
+  module _ (to two : List Float) (v : Two inputs (4 * h + 0) two) (d : to ≡ termed pairs two at acc) where
     sums-1 : to ≡ tab (sums n xs t (2 * h + 1)) 8
     sums-1 =
         sums-more n t size w.room (2 * h) _ _ w.at_is xs refl next (first-in n t size w.room (2 * h)) (first_on n t size w.room (2 * h))
-        (4 * h) _ _ _ _ (omega arith) w.tables.1 w.tables.0 w.acc_is d
+        (4 * h + 0) _ _ _ _ (omega arith) w.tables.1 w.tables.0 w.acc_is (d ∙ terms _ _ _ _ _ _ v)
 
   -- after the first step
   module _ (b : List ℕ) (s : ℕ) (e : s ≡ 2 * (2 * t + 1 + n)) (g : b ≡ stepped s at) where
@@ -113,11 +142,12 @@ module _ {xs pairs inputs : List Float} {t h : ℕ} {at : List ℕ} {acc : List 
     small-1 = before n t size w.room (2 * h) _ _ lanes-1 16000 (second-small n t size w.room (2 * h))
 
     -- after the second input
-    module _ (to : List Float) (d : to ≡ termed pairs inputs (4 * h) at acc) (on : List Float) (f : on ≡ termed pairs inputs (4 * h + 2) b to) where
+    module _ (to two : List Float) (v : Two inputs (4 * h + 0) two) (d : to ≡ termed pairs two at acc)
+        (on two₂ : List Float) (v₂ : Two inputs (4 * h + 2) two₂) (f : on ≡ termed pairs two₂ b to) where
       pub sums-2 : on ≡ tab (sums n xs t (2 * h + 1 + 1)) 8
       sums-2 =
           sums-more n t size w.room (2 * h + 1) _ _ lanes-1 xs refl next-2 (second-in n t size w.room (2 * h)) (second-on n t size w.room (2 * h))
-          (4 * h + 2) _ _ _ _ (omega arith) w.tables.1 w.tables.0 (sums-1 to d) f
+          (4 * h + 2) _ _ _ _ (omega arith) w.tables.1 w.tables.0 (sums-1 to two v d) (f ∙ terms _ _ _ _ _ _ v₂)
 
     -- after the second step
     module _ (b₂ : List ℕ) (g₂ : b₂ ≡ stepped s b) where

@@ -22,15 +22,15 @@ pub(crate) struct Sums {
 // Adds a pair of inputs to four pairs of sums, each times the pair of cosines at its place.
 // Not the functions of `mdct`: sums in pairs read two tables by pairs, go other steps, and are taken back into the circle once in
 // two of them.
-fn add_terms(pairs: &[f64], inputs: &[f64], i: usize, at: &[usize; 4], acc: &mut [f64; 8])
-    requires places { (i + 2 ≤ length inputs.now) × (length pairs.now ≤ 11520) }
+fn add_terms(pairs: &[f64], inputs: [f64; 2], at: &[usize; 4], acc: &mut [f64; 8])
+    requires pairs_len { length pairs.now ≤ 11520 }
     requires by_index { (j : ℕ) → j < 4 → get_or at.now j 0 + 2 ≤ length pairs.now }
     ensures { acc.new
         ≡ tab (λ e. add binary64 (get_or acc.old e nan)
-        (mul binary64 (get_or inputs.now (i + e % 2) nan) (get_or pairs.now (get_or at.now (e / 2) 0 + e % 2) nan))) 8 }
+        (mul binary64 (get_or inputs (e % 2) nan) (get_or pairs.now (get_or at.now (e / 2) 0 + e % 2) nan))) 8 }
 {
     for (e, sum) in acc.iter_mut().enumerate() {
-        *sum += inputs[i + e % 2] * pairs[at[e / 2] + e % 2];
+        *sum += inputs[e % 2] * pairs[at[e / 2] + e % 2];
     }
 }
 
@@ -85,17 +85,17 @@ impl Tables<'_> {
             × (result.products ≡ 8 * length self.entry.x.now) }
     {
         let n = self.x.len();
-        let half = n / 2;
         let w = 8 * n;
         let step = 2 * (2 * t + 1 + n);
         let mut at = first_places(t, n);
         let mut acc = [0.0f64; 8];
         let mut products = 0;
-        // By number: a turn reads four places of the inputs, two and two.
-        for h in 0..half {
-            add_terms(self.pairs, self.inputs, 4 * h, &at, &mut acc);
+        let (fours, _) = self.inputs.as_chunks::<4>();
+        for four in fours {
+            let [a, b, c, d] = *four;
+            add_terms(self.pairs, [a, b], &at, &mut acc);
             onward(step, &mut at);
-            add_terms(self.pairs, self.inputs, 4 * h + 2, &at, &mut acc);
+            add_terms(self.pairs, [c, d], &at, &mut acc);
             onward(step, &mut at);
             around(w, &mut at);
             products += 16;

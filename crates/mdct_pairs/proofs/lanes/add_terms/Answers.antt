@@ -14,7 +14,7 @@ pub loop-e-preserved : goal.loop-e-preserved
 loop-e-preserved c =
     let l = c.loop-e in
     let a = c.args in
-    let term = mul binary64 (get_or a.inputs.now (a.i + l.e % 2) nan) (get_or a.pairs.now (get_or a.at.now (l.e / 2) 0 + l.e % 2) nan) in
+    let term = mul binary64 (get_or a.inputs (l.e % 2) nan) (get_or a.pairs.now (get_or a.at.now (l.e / 2) 0 + l.e % 2) nan) in
     tab-more _ nan _ _ _ l.invariant _ (ap (λ y. add binary64 y term) (tab-read _ nan _ _ _ l.invariant (search rules))) (search rules)
 
 pub returns : goal.returns

@@ -1,42 +1,44 @@
 -- With two inputs every lane goes two steps on and is taken back into the circle, and each sum gets two terms more.
 use mathlib.Core.Path.{◌≡◌, refl, ap, ◌∙◌}
-use Prim.Native.Nat.{ℕ, ◌+◌, ◌*◌}
+use Prim.Native.Nat.{ℕ, ◌+◌, ◌*◌, ◌<◌}
 use native.Mathlib.Omega.{arith}
-use lib.ListN.{length}
+use mathlib.Core.List.{[], ◌∷◌}
+use lib.ListN.{length, get_or}
+use lib.Ieee.{nan}
 use Rattle.loops.specs.Front.{tab}
 use Rattle.mdct.specs.Imdct.{imdct_sum}
 use Rattle.cosine_circle.proofs.Sizes.{sized, even, few}
 use Rattle.mdct_pairs.proofs.PairLanes.{places, sums, sums_none, places-none}
-use Rattle.mdct_pairs.proofs.Two.{short-step, turn, pairs-in, inputs-in, reads, small, reads-1, small-1, sums-2, small-2, lanes-3}
+use Rattle.mdct_pairs.proofs.Two.{short-step, turn, more-left, of-four, two-of, inputs-count, pairs-in, reads, small, reads-1, small-1, sums-2, small-2, lanes-3}
 use Rattle.mdct_pairs.proofs.lanes.Tables.four.Goals as goal
 
 pub first_places-at-requires : goal.first_places-at-requires
 first_places-at-requires c = let f = few _ c.args.self.frame in (omega arith, f)
 
-pub loop-h-init : goal.loop-h-init
-loop-h-init c = (places-none _ _ (sized _ c.args.self.frame) c.requires _ c.first_places-at.ensures, sums_none _ _ _, refl)
+pub loop-four-init : goal.loop-four-init
+loop-four-init c = (places-none _ _ (sized _ c.args.self.frame) c.requires _ c.first_places-at.ensures, sums_none _ _ _, refl)
 
 pub add_terms-requires : goal.add_terms-requires
 add_terms-requires c =
-    let w = turn c.args.self c.requires c.loop-h-test.true c.loop-h.invariant.0 c.loop-h.invariant.1 in
-    record { places = (inputs-in w (4 * c.loop-h.h) (omega arith), pairs-in w); by_index = reads w }
+    let w = turn c.args.self c.requires (more-left c.args.self _ c.as_chunks.ensures.front_len c.loop-four-test.true) c.loop-four.invariant.0 c.loop-four.invariant.1 in
+    record { pairs_len = pairs-in w; by_index = reads w }
 
 pub onward-requires : goal.onward-requires
 onward-requires c =
-    let w = turn c.args.self c.requires c.loop-h-test.true c.loop-h.invariant.0 c.loop-h.invariant.1 in
+    let w = turn c.args.self c.requires (more-left c.args.self _ c.as_chunks.ensures.front_len c.loop-four-test.true) c.loop-four.invariant.0 c.loop-four.invariant.1 in
     record { step_bound = short-step _ _ (few _ c.args.self.frame) c.requires; by_index = small w }
 
-pub add_terms-requires-in-loop-h : goal.add_terms-requires-in-loop-h
-add_terms-requires-in-loop-h c =
-    let w = turn c.args.self c.requires c.loop-h-test.true c.loop-h.invariant.0 c.loop-h.invariant.1 in
+pub add_terms-requires-in-loop-four : goal.add_terms-requires-in-loop-four
+add_terms-requires-in-loop-four c =
+    let w = turn c.args.self c.requires (more-left c.args.self _ c.as_chunks.ensures.front_len c.loop-four-test.true) c.loop-four.invariant.0 c.loop-four.invariant.1 in
     record {
-      places = (inputs-in w (4 * c.loop-h.h + 2) (omega arith), pairs-in w);
+      pairs_len = pairs-in w;
       by_index = reads-1 w _ _ refl c.onward.ensures;
     }
 
-pub onward-requires-in-loop-h : goal.onward-requires-in-loop-h
-onward-requires-in-loop-h c =
-    let w = turn c.args.self c.requires c.loop-h-test.true c.loop-h.invariant.0 c.loop-h.invariant.1 in
+pub onward-requires-in-loop-four : goal.onward-requires-in-loop-four
+onward-requires-in-loop-four c =
+    let w = turn c.args.self c.requires (more-left c.args.self _ c.as_chunks.ensures.front_len c.loop-four-test.true) c.loop-four.invariant.0 c.loop-four.invariant.1 in
     record {
       step_bound = short-step _ _ (few _ c.args.self.frame) c.requires;
       by_index = small-1 w _ _ refl c.onward.ensures;
@@ -44,18 +46,23 @@ onward-requires-in-loop-h c =
 
 pub around-requires : goal.around-requires
 around-requires c =
-    let w = turn c.args.self c.requires c.loop-h-test.true c.loop-h.invariant.0 c.loop-h.invariant.1 in
-    small-2 w _ _ refl c.onward.ensures _ c.onward-in-loop-h.ensures
+    let w = turn c.args.self c.requires (more-left c.args.self _ c.as_chunks.ensures.front_len c.loop-four-test.true) c.loop-four.invariant.0 c.loop-four.invariant.1 in
+    small-2 w _ _ refl c.onward.ensures _ c.onward-in-loop-four.ensures
 
-pub loop-h-preserved : goal.loop-h-preserved
-loop-h-preserved c =
-    let w = turn c.args.self c.requires c.loop-h-test.true c.loop-h.invariant.0 c.loop-h.invariant.1 in
+pub loop-four-preserved : goal.loop-four-preserved
+loop-four-preserved c =
+    let w = turn c.args.self c.requires (more-left c.args.self _ c.as_chunks.ensures.front_len c.loop-four-test.true) c.loop-four.invariant.0 c.loop-four.invariant.1 in
     let n = length c.args.self.x.now in
-    let l = c.loop-h in
-    let two : 2 * l.h + 1 + 1 ≡ 2 * (l.h + 1) = omega arith in (
-      lanes-3 w _ _ refl c.onward.ensures _ c.onward-in-loop-h.ensures _ c.around.ensures
+    let l = c.loop-four in
+    let f = λ (j : ℕ) (g : j < 4).
+    ap (λ y. get_or (get_or y l.four-index []) j nan) c.as_chunks.ensures.front
+    ∙ of-four _ l.four-index j c.args.self.inputs.now (omega (arith, c.loop-four-test.true, c.as_chunks.ensures.front_len)) g in
+    let u = two-of c.args.self.inputs.now l.four-index 0 _ _ (f 0 (omega arith)) (f 1 (omega arith)) in
+    let v = two-of c.args.self.inputs.now l.four-index 2 _ _ (f 2 (omega arith)) (f 3 (omega arith)) in
+    let two : 2 * l.four-index + 1 + 1 ≡ 2 * (l.four-index + 1) = omega arith in (
+      lanes-3 w _ _ refl c.onward.ensures _ c.onward-in-loop-four.ensures _ c.around.ensures
           ∙ ap (λ y. tab (λ (j : ℕ). 2 * places n c.args.t y j) 4) two,
-      sums-2 w _ _ refl c.onward.ensures _ c.add_terms.ensures _ c.add_terms-in-loop-h.ensures
+      sums-2 w _ _ refl c.onward.ensures _ (_ ∷ _ ∷ []) u c.add_terms.ensures _ (_ ∷ _ ∷ []) v c.add_terms-in-loop-four.ensures
           ∙ ap (λ y. tab (sums n c.args.self.x.now c.args.t y) 8) two,
       omega arith,
     )
@@ -63,8 +70,10 @@ loop-h-preserved c =
 pub returns : goal.returns
 unfolding imdct_sum
 returns c =
-    let l = c.loop-h in
+    let l = c.loop-four in
     let n = length c.args.self.x.now in
     let v = even n (sized _ c.args.self.frame) in
-    let e : 2 * l.h ≡ n = omega arith in
+    let q = c.as_chunks.ensures.front_len in
+    let i = inputs-count _ _ c.args.self.inputs_value in
+    let e : 2 * l.four-index ≡ n = omega (arith, c.loop-four-test, q, i, v) in
     (l.invariant.1 ∙ ap (λ y. tab (sums n c.args.self.x.now c.args.t y) 8) e, omega arith)

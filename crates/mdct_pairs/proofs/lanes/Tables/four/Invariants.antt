@@ -5,6 +5,7 @@ use Rattle.loops.specs.Front.{tab}
 use Rattle.mdct_pairs.proofs.PairLanes.{places, sums}
 use Rattle.mdct_pairs.proofs.lanes.Tables.four.Given as goal
 
-abbrev pub invariant-loop-h : goal.invariant-loop-h
-invariant-loop-h l =
-    (l.at ≡ tab (λ (j : ℕ). 2 * places l.n l.t (2 * l.h) j) 4) × (l.acc ≡ tab (sums l.n l.self.x.now l.t (2 * l.h)) 8) × (l.products ≡ 16 * l.h)
+abbrev pub invariant-loop-four : goal.invariant-loop-four
+invariant-loop-four l =
+    let k = 2 * l.four-index in
+    (l.at ≡ tab (λ (j : ℕ). 2 * places l.n l.t k j) 4) × (l.acc ≡ tab (sums l.n l.self.x.now l.t k) 8) × (l.products ≡ 16 * l.four-index)
