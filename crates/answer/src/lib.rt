@@ -29,7 +29,7 @@ fn conceal_record(
 }
 
 // A record whose loss was accepted is written anew; a refused one stays as it was read.
-// By length: of a slice that `try_from` makes an array a proof no longer has what the caller's slice becomes.
+// By length: once `try_from` has made an array of the slice, a proof no longer has what the slice itself becomes.
 fn answer(rec: &mut [u8], head: &mut [u8]) -> Result<usize, Refused>
     requires { (length rec.old ≡ record_length) × (head_most ≤ length head.old) }
     ensures { replied result (with_record (headed (value_or 0 result) head.new) rec.new)

@@ -41,7 +41,8 @@ pub fn write_head(head: &mut [u8], number: u32, kind: u32, pcm: &[f32]) -> Resul
     Ok(REPORT_BYTES + 4 * samples)
 }
 
-// The step for what is left past the last whole record, n bytes of it: nothing for none, and else 11, 0, 0.
+// The step for what is left past the last whole record, n bytes of it: no bytes for none, and else 11, 0, 0. How many is a
+// number here as in `write_head`, and none is one of them.
 // A `head` of less than 12 bytes is refused, and stays.
 #[tactic(auto, using(std::proofs::lemmas::Bool::Decides::nat_tests), unfolding(reply::specs::Reply::reply_if))]
 pub fn answer_tail(n: usize, head: &mut [u8]) -> Result<usize, Refused>

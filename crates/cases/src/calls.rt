@@ -34,8 +34,8 @@ impl Decoder {
         b
     }
 
-    // One call, lent the first n samples of the history and the first p of a PCM buffer, each 1 before it: number, kind and
-    // sample count.
+    // One call, lent the first n samples of the history and the first p of a PCM buffer, which is 1 throughout before it: number,
+    // kind and sample count. Both by a count: lengths that are refused are what the case asks for.
     pub(crate) fn call(&mut self, n: usize, pcm: &mut [f32], p: usize) -> [u32; 3] {
         let last = p.min(pcm.len());
         let lent = &mut pcm[..last];

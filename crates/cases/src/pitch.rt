@@ -26,7 +26,7 @@ fn mono(lm: u32) -> Settings {
     }
 }
 
-// Six words ahead of the floats: lm, first, lag and the filter.
+// Five words ahead of the floats: first, lag and the filter.
 fn read_pitch(wire: &mut Wire) -> io::Result<Pitch> {
     let first = wire.read::<u32>()? == 1;
     let lag = wire.read()?;

@@ -138,7 +138,8 @@ pub fn window() -> [f32; OVERLAP]
     WINDOW
 }
 
-// The window of one long block of n + 120 samples, w being the rising half: it rises, stays at 1 and falls.
+// The window of one long block of n + 120 samples, w being the rising half: it rises, stays at 1 and falls, and
+// is 0 past its end: total, as no public function asks anything.
 #[tactic(auto, using(std::proofs::lemmas::Bool::Decides::nat_tests), unfolding(crate::specs::Window::low_overlap_window))]
 pub fn low_overlap_window(w: &[f32; OVERLAP], n: usize, j: usize) -> f32
     ensures { result ≡ low_overlap_window w.now n j }

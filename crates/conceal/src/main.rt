@@ -71,8 +71,8 @@ fn answer_whole<W: Write>(
     written(clock, output, rec)
 }
 
-// Reads and answers one record; false where there is no more to answer. A plain answer to a question: nothing is carried out of
-// the loop.
+// Reads and answers one record; false where there is no more to answer. A bool: whether there is more is all that its
+// caller asks.
 fn conceal_one<R: Read, W: Write>(
     rt: &(impl Clock + Eprint),
     input: &mut R,

@@ -48,7 +48,7 @@ fn write_some<W: Write>(clock: &impl Clock, output: &mut W, part: &[u8]) -> Resu
     ensures bound { WritesAtMost result part.now }
     ensures bytes { WriteAppends (W.contents output.old) (W.contents output.new) result part.now }
 {
-    // by count, as above
+    // By count, as in `read_some`.
     for _ in 0..u64::MAX {
         let call = output.write(part);
         if !again(clock, &call) {

@@ -36,7 +36,7 @@ const E_MEANS: [f32; MAX_BANDS] = [
     4.625, 4.3125, 4.5, 4.375, 4.625, 4.75, 4.4375, 3.75, 3.75, 3.75, 3.75, 3.75,
 ];
 
-// The edge numbered i, in bins of the shortest block; past the last the last.
+// The edge numbered i, in bins of the shortest block; an i past the last counts as the last.
 pub fn band_edge(i: usize) -> usize
     ensures { result ≡ edge i }
 {

@@ -24,8 +24,8 @@ pub struct Voice<'a> {
     pub lpc: &'a [f32; ORDER],
 }
 
-// Fills e with the last pitch cycle of the voice's excitation, by the samples before its newest, the most recent first;
-// returns the energy of the history that e stands for.
+// Fills e with the last pitch cycle of the voice's excitation; `mem` is the filter's memory, the most recent first.
+// Returns the energy of the history that e stands for.
 // Refused, with e as lent: newest not of 1,024 samples, a lag of 0 or above 1,024.
 #[tactic(auto, using(std::proofs::lemmas::Bool::Decides::nat_tests), unfolding(reply::specs::Reply::reply_if, periodic_copy::specs::Copy::cycle_takes))]
 pub fn repeat_cycle(e: &mut [f32], voice: Voice, mem: &[f32; ORDER]) -> Result<f32, Refused>

@@ -21,7 +21,7 @@ use reply::Refused;
 // What is extrapolated at most: as many as the filter takes.
 pub const LONGEST: usize = plc_iir::LONGEST;
 
-// Here and below `first` answers a question, whether the loss before was none:
+// Here and below `first` answers a question, whether no loss came before:
 // a bool, since a caller has it as a comparison, `loss_count == 0`.
 #[tactic(auto, unfolding(crate::specs::Extrapolate::fade))]
 fn fade_of(first: bool) -> f32

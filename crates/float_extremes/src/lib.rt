@@ -1,4 +1,5 @@
-// Rust's `f32::min` and `f32::max`, which leave open which of two zeros they answer: here it is the first.
+// Rust's `f32::min` and `f32::max`, which leave open which of two zeros they answer: here it is the first. Document 01's own
+// helpers, an expression each.
 
 #![tactic(auto)]
 

@@ -70,7 +70,8 @@ impl Half<'_> {
         }
     }
 
-    // All 2 n outputs.
+    // All 2 n outputs. A list by a function of its number, as `fill_inputs` in mdct_pairs and `fill_by` in plc_downsample fill
+    // theirs: one for all would be public, and ask that its closure may be called.
     fn outputs(self, out: &mut [f32])
         requires { length out.old ≡ 2 * length self.sums.now }
         ensures { out.new ≡ mirrored_outputs (length self.entry.sums.now) self.entry.sums.now }

@@ -13,7 +13,7 @@ fn input_at(x: &[f32], i: usize) -> f64
     if i % 4 == 3 { -v } else { v }
 }
 
-// Each input twice, the second of every other pair with its sign turned.
+// Each input twice, the second of every other pair with its sign turned. A loop of its own, as `outputs` in mdct_mirrored says.
 pub(crate) fn fill_inputs(x: &[f32], inputs: &mut [f64])
     requires { (length x.now ≤ 960) × (length inputs.old ≡ 2 * length x.now) }
     ensures { inputs.new ≡ inputs_of x.now }

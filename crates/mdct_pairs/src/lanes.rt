@@ -20,8 +20,8 @@ pub(crate) struct Sums {
 }
 
 // Adds a pair of inputs to four pairs of sums, each times the pair of cosines at its place.
-// Not the functions of `mdct`: sums in pairs read two tables by pairs, go other steps, and are taken back into the circle once in
-// two of them.
+// Not the functions of `mdct`: sums in pairs read two tables by pairs, go other steps, and come back into the circle
+// once for two inputs. The sums are written by number: of a zip with `iter_mut` a proof has the items alone.
 fn add_terms(pairs: &[f64], inputs: [f64; 2], at: &[usize; 4], acc: &mut [f64; 8])
     requires pairs_len { length pairs.now ≤ 11520 }
     requires by_index { (j : ℕ) → j < 4 → get_or at.now j 0 + 2 ≤ length pairs.now }
@@ -34,8 +34,8 @@ fn add_terms(pairs: &[f64], inputs: [f64; 2], at: &[usize; 4], acc: &mut [f64; 8
     }
 }
 
-// Takes each of four places its step on: two places further for each output. Here and in `around` the loop is the whole function:
-// one for both would say in its contract what a closure answers of each place.
+// Takes each of four places its step on, which for each output is four places more than for the one before. Here and in `around`
+// the loop is the whole function: one for both would say in its contract what a closure answers of each place.
 fn onward(step: usize, at: &mut [usize; 4])
     requires step_bound { step < 8000 }
     requires by_index { (j : ℕ) → j < 4 → get_or at.old j 0 < 16000 }

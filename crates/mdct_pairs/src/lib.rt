@@ -72,7 +72,7 @@ pub fn pair_sums(spectrum: &[f32], sums: &mut [f64]) -> Result<usize, Refused>
     if !pair_takes(n, sums.len()) {
         return Err(Refused);
     }
-    // The shortest frame has tables of its own: clearing the longest's takes half as long as its sums.
+    // The shortest frame has tables of its own: clearing the longest frame's would take half as long as the shortest's sums.
     if n == FRAME_LEAST {
         Ok(sums_within::<1_440, 240>(spectrum, sums))
     } else {

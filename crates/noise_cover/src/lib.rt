@@ -24,6 +24,7 @@ pub fn lay(tail: &mut [f32], block: &[f32]) -> Result<(), Refused>
     }
     let (first, rest) = tail.split_at_mut(OVERLAP);
     let over = &rest[size - 2 * OVERLAP..];
+    // Block and overlap by number: of a zip with `iter_mut` a proof has the items alone, not the list that they leave.
     for (j, v) in first.iter_mut().enumerate() {
         *v = block[j] + over[j];
     }

@@ -15,7 +15,7 @@ use custom_mode::standard::{BANDS, MAX_BANDS, SHORT_BLOCK, band_edge, mean_energ
 use noise_shape::{FACTOR_MOST, noise_shape};
 use reply::Refused;
 
-// The bands that are drawn, from start to just below end, and what the output's rate is divided by.
+// The bands that get a gain, from start to just below end, and what the output's rate is divided by.
 #[derive(Clone, Copy)]
 pub struct Span {
     pub start: usize,
@@ -96,8 +96,8 @@ pub fn noise_spectrum(
         return Err(Refused);
     }
     let after = noise_shape(bins, m, span.start, seed)?;
-    let drawn = Bands { m, span };
-    drawn.apply_gains(bins, energies);
-    bins[drawn.bound()..].fill(0.0);
+    let heard = Bands { m, span };
+    heard.apply_gains(bins, energies);
+    bins[heard.bound()..].fill(0.0);
     Ok(after)
 }

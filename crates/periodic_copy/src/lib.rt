@@ -40,7 +40,7 @@ impl Place {
 // Fills e with the last cycle of exc, repeated, the decay squared at each wrap.
 // Returns the energy of the newest samples at the same positions.
 // Refused, with e as lent: newest not of 1,024 samples, a lag of 0 or above 1,024.
-// Samples, lag and decay apart: what a channel is continued from has a predictor, by which no copy goes.
+// Samples, lag and decay apart, not a `Voice`: a copy needs no predictor.
 #[tactic(auto, using(std::proofs::lemmas::Bool::Decides::nat_tests), unfolding(reply::specs::Reply::reply_if, crate::specs::Copy::cycle_takes))]
 pub fn periodic_copy(
     e: &mut [f32],

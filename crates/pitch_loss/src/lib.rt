@@ -25,7 +25,7 @@ mod channels;
 #[derive(Clone, Copy)]
 pub struct Pitch {
     pub lag: u32,
-    // Whether the loss before it was none: a bool, since a caller has it as a comparison, `loss_count == 0`.
+    // Whether no loss came before: a bool, since a caller has it as a comparison, `loss_count == 0`.
     pub first: bool,
     // 24 coefficients of either channel.
     pub predictor: [f32; 2 * ORDER],

@@ -17,7 +17,8 @@ fn add_products(v: f32, y: &[f32], sums: &mut [f32])
     ensures { sums.new
         ≡ tab (λ (i : ℕ). add binary32 (get_or sums.old i nan) (mul binary32 v (get_or y.now i nan))) (length sums.old) }
 {
-    // By place: a zip with `iter_mut` tells a proof the items, not the list that they leave.
+    // By place: a zip with `iter_mut` tells a proof the items, not the list that they leave. (Why it is not one function with the
+    // loops of plc_fir and plc: see `add_taps` there.)
     for (i, s) in sums.iter_mut().enumerate() {
         *s += v * y[i];
     }

@@ -12,7 +12,7 @@ use reply::Refused;
 const SMALL: f32 = 0.001;
 
 // Levinson-Durbin: leaves once the error is below 0.001 of the first correlation.
-// By place: a turn is as long as its number, and the loops in it take a place from either side.
+// By place: document 01 names the form, nested and left from inside; a turn takes its places from either side.
 fn solve(lpc: &mut [f32], ac: &[f32])
     requires { length ac.now ≡ length lpc.old + 1 }
     ensures { lpc.new ≡ celt_lpc ac.now (length lpc.old) }
@@ -25,7 +25,7 @@ fn solve(lpc: &mut [f32], ac: &[f32])
     }
     for i in 0..p {
         let mut rr = 0.0f32;
-        // By place: lpc runs up while ac runs down.
+        // By place: lpc runs up while ac runs down, which a zip of two parts, one of them turned round, would say no plainer.
         for j in 0..i {
             rr += lpc[j] * ac[i - j];
         }

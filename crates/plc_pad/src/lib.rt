@@ -11,7 +11,7 @@ use reply::Refused;
 // The order of the filters: at most so many values are remembered.
 pub const ORDER: usize = 24;
 // The most recent of them, ahead of the first sample.
-pub const NEWEST: usize = 23;
+pub const NEWEST: usize = ORDER - 1;
 
 // Puts mem, the most recent first, before place 24 of pad. More than 24 values and a shorter pad are refused, and pad stays.
 #[tactic(auto, using(std::proofs::lemmas::Bool::Decides::nat_tests), unfolding(reply::specs::Reply::reply_if))]
@@ -28,7 +28,7 @@ pub fn remember(pad: &mut [f32], mem: &[f32]) -> Result<(), Refused>
     Ok(())
 }
 
-// x less the taps on the 24 values before its place, the last of which is the most recent, in order.
+// x less each tap times its value of the 24 before, in order; the last of `past` is the most recent.
 #[inline(always)]
 pub fn less_taps(den: &[f32; ORDER], past: &[f32; ORDER], x: f32) -> f32
     ensures { result ≡ taps_taken den.now past.now 0 x order }

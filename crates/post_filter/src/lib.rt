@@ -6,7 +6,8 @@ ghost use Rattle.std.specs.Prelude.{◌≡◌};
 ghost use Rattle.post_filter.specs.Limits.{filter_fits};
 ghost use Rattle.post_filter.specs.Gains.{comb_gains};
 
-// A setting: the gain, the pitch period and which row of tap factors.
+// A setting: the gain, the pitch period and which row of tap factors. Numbers, as a state's words have them: any can come, and
+// the limits refuse the rest.
 #[derive(Clone, Copy, Debug, PartialEq)]
 pub struct Filter {
     pub gain: f32,

@@ -49,7 +49,7 @@ fn put_both(w: &mut [u32], x: &[f32], y: &[f32])
     put_floats(second, y);
 }
 
-// Of a borrowed array: of a local one the check no longer knows the length once two parts have come back.
+// Of a borrowed array: the check loses a local one's length when two parts of it have been lent and come back.
 fn put_state(w: &mut [u32; WORDS], s: State)
     ensures { w.new ≡ state_words s }
 {

@@ -1,4 +1,4 @@
-// The settings of a stream: which are refused, and what follows from them; what a call is refused for.
+// The settings of a stream, which of them are refused, and what a call is refused for.
 
 #![tactic(auto)]
 

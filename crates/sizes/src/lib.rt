@@ -9,7 +9,7 @@ use custom_mode::standard::SHORT_BLOCK;
 use settings::Settings;
 use settings::checks::{LM_MOST, settings_pass};
 
-// The block factor m; an lm above 3 counts as 3.
+// The block factor m; an lm above 3 counts as 3: both functions are total, since none asks anything of its callers.
 pub fn block_factor(lm: u32) -> usize
     ensures { result ≡ block_factor lm }
 {

@@ -7,7 +7,7 @@ ghost use Rattle.words.specs.Bytes.{word_at, values_at};
 
 use float_bits::words::Word;
 
-// The word numbered i, 0 where b ends before it does.
+// The word numbered i, 0 where b ends before it does: total, as a cut record is read too.
 pub fn word_at(b: &[u8], i: usize) -> u32
     ensures { result ≡ word_at b.now i }
 {
@@ -18,7 +18,7 @@ pub fn word_at(b: &[u8], i: usize) -> u32
     }
 }
 
-// The values of the words from the one numbered i on. No list has a word at the greatest number.
+// The values of the words from the one numbered i on. The numbers stop at the greatest, at which no list has a word.
 // By number: past b's end a word is 0, and a zip with b's words would leave the value as it was.
 pub fn values_at<W: Word>(b: &[u8], i: usize, out: &mut [W])
     ensures { out.new ≡ values_at W.of_word b.now i (length out.old) }
