@@ -6,12 +6,11 @@ use Prim.Native.Nat.{ℕ, ◌+◌, ◌-◌, ◌*◌, ◌/◌, ◌%◌, ◌≤◌
 use native.Mathlib.Omega.{arith}
 use native.Mathlib.Nat.{mul-add, mul_assoc, mul_comm, mul_left_comm, mul-le-mul_left, mul-lt-mul_of_pos_left}
 use lib.ListN.{length, get_or, set}
-use lib.Dec.{eqb}
 use lib.Ieee.{Float, nan, neg}
-use borrow.Author.Tests.{eq-eqb, eqb-true}
+use borrow.Author.Tests.{eq-eqb}
 use Rattle.loops.specs.Front.{front, tab, tab-none, tab-more, tab-all}
 use Rattle.loops.specs.Part.{put}
-use Rattle.loops.specs.Logic.{and-true, and_both}
+use Rattle.loops.specs.Logic.{and_both}
 use Rattle.mdct.proofs.Fronts.{run_put}
 use Rattle.cosine_table.specs.Cosines.{cosines}
 use Rattle.cosine_circle.specs.Circle.{cos_at, is_frame_size}
@@ -139,10 +138,6 @@ pub takes-frame : (n m : ℕ) → is_frame_size n ≡ true → m ≡ 12 * n → 
 unfolding pairs_take
 takes-frame n m e h = and_both _ _ e (eq-eqb m (12 * n) h)
 
-pub takes_fits : (n m : ℕ) → pairs_take n m ≡ true → (is_frame_size n ≡ true) × (m ≡ 12 * n)
-unfolding pairs_take
-takes_fits n m e = let p = and-true (is_frame_size n) (eqb m (12 * n)) e in (p.0, eqb-true m (12 * n) p.1)
-
 -- and quarter r has room in it
-pub in_room : (n m r : ℕ) → pairs_take n m ≡ true → r < 6 → (n ≤ 960) × (m ≡ 12 * n) × (2 * (n * r) + 2 * n ≤ m)
-in_room n m r e h = let p = takes_fits n m e in ((known n p.0).1, p.1, omega (arith, room n r h, p.1))
+pub in_room : (n m r : ℕ) → m ≡ 12 * n → r < 6 → 2 * (n * r) + 2 * n ≤ m
+in_room n m r e h = omega (arith, room n r h)

@@ -7,7 +7,7 @@ ghost use Rattle.loops.specs.Front.{front, tab};
 ghost use Rattle.reply.specs.Reply.{replied};
 ghost use Rattle.cosine_table.specs.Cosines.{cosines};
 ghost use Rattle.cosine_circle.specs.Circle.{cos_at, is_frame_size};
-ghost use Rattle.cosine_pairs.specs.Pairs.{pair_at, pairs_take, pairs_reply};
+ghost use Rattle.cosine_pairs.specs.Pairs.{pair_at, pairs_reply};
 
 use cosine_circle::{FRAME_MOST, is_frame_size};
 use cosine_table::{QUARTER, cosines};
@@ -54,21 +54,13 @@ impl Table<'_> {
     }
 }
 
-// Whether n is a frame size and its pairs take so many places.
-#[tactic(auto, using(std::proofs::lemmas::Bool::Decides::nat_tests, cosine_circle::proofs::Sizes::few), unfolding(crate::specs::Pairs::pairs_take))]
-fn pairs_take(n: usize, places: usize) -> bool
-    ensures { result ≡ pairs_take n places }
-{
-    is_frame_size(n) && places == 12 * n
-}
-
 // The pairs of a circle and a half for the frame size n, in 12 n places. Any other size or number of places is refused, and they
-// stay as they were.
-#[tactic(auto, using(crate::proofs::Pairs::in_room))]
+// stay as they were: so n stands beside the places, whose number would say it, and a call with more or fewer is promised a refusal.
+#[tactic(auto, using(cosine_circle::proofs::Sizes::few, crate::proofs::Pairs::in_room, std::proofs::lemmas::Bool::Decides::nat_tests), unfolding(crate::specs::Pairs::pairs_reply, crate::specs::Pairs::pairs_take, reply::specs::Reply::reply_if))]
 pub fn fill_pairs(n: usize, pairs: &mut [f64]) -> Result<(), Refused>
     ensures { replied result pairs.new ≡ pairs_reply n pairs.old }
 {
-    if !pairs_take(n, pairs.len()) {
+    if !is_frame_size(n) || pairs.len() != 12 * n {
         return Err(Refused);
     }
     let table = Table { c: &cosines(), n };

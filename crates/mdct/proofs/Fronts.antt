@@ -1,10 +1,10 @@
 -- Lists that are filled from the front, in runs.
-use mathlib.Core.Path.{◌≡◌, refl, subst, ap, ap₂, ◌∙◌, sym}
+use mathlib.Core.Path.{◌≡◌, ap, ap₂, ◌∙◌, sym}
 use mathlib.Core.List.{List, [], ◌∷◌, ◌++◌, append_assoc, append-nil}
 use Prim.Native.Nat.{ℕ, zero, suc, ◌+◌, ◌<◌}
 use native.Mathlib.Omega.{arith}
 use native.Mathlib.Nat.{add-zero, add-suc}
-use lib.ListN.{get_or, replicate, length-replicate, get_or-replicate}
+use lib.ListN.{replicate, length-replicate, get_or-replicate}
 use lib.Seq.{ext_get_or}
 use Rattle.loops.specs.Part.{put, put_next}
 use Rattle.loops.specs.Front.{front, tab, length-tab, get_or-tab}

@@ -92,5 +92,6 @@ module _ (n t : ℕ) (z : Size n) where
           ap (λ y. (y + get_or step j 0) % (4 * n)) (at-is j h) ∙ ap (λ y. (place n (t + j) k + y) % (4 * n)) (step_is j h)
           ∙ place-more n (t + j) k above)
 
-pub sums_none : (n : ℕ) (x : List Float) (t : ℕ) → replicate 8 (of_bits binary64 0) ≡ tab (sums n x t 0) 8
-sums_none n x t = tab-const (sums n x t 0) (of_bits binary64 0) 8 (λ i h. sum-none _ _ _)
+-- eight sums of nothing, whatever their terms
+pub sums_none : (f : ℕ → ℕ → Float) → replicate 8 (of_bits binary64 0) ≡ tab (λ (j : ℕ). sum_to binary64 (f j) (of_bits binary64 0) 0) 8
+sums_none f = tab-const _ (of_bits binary64 0) 8 (λ i h. sum-none _ _ _)

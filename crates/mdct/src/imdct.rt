@@ -96,7 +96,8 @@ impl Frame<'_> {
         requires { length out.old ≡ 2 * length self.x.now }
         ensures { out.new ≡ imdct (length self.entry.x.now) self.entry.x.now }
     {
-        // By number: of parts that `chunks_exact_mut` lends a proof knows how many there are, not what they leave.
+        // By number: of parts that `chunks_exact_mut` lends a proof knows how many there are, not what they leave. The walk by
+        // eights is that of `fill_sums` in mdct_pairs: one for both would be public, and ask that its closure may be called.
         for k in 0..out.len() / 8 {
             let t = 8 * k;
             halves(&self.eight(t), &mut out[t..t + 8]);
@@ -104,7 +105,8 @@ impl Frame<'_> {
     }
 }
 
-// Whether there are as many inputs as one of the four frame sizes, and room for twice as many outputs.
+// Whether there are as many inputs as one of the four frame sizes, and room for twice as many outputs. For two callers, here and in
+// mdct_mirrored; `pair_sums` and `fill_pairs` want other room, and ask for it where they refuse.
 #[tactic(auto, using(std::proofs::lemmas::Bool::Decides::nat_tests, cosine_circle::proofs::Sizes::few), unfolding(crate::specs::Imdct::imdct_takes))]
 pub fn imdct_takes(inputs: usize, outputs: usize) -> bool
     ensures { result ≡ imdct_takes inputs outputs }

@@ -5,8 +5,6 @@ use mathlib.Core.Bool.{Bool, true}
 use Prim.Native.Nat.{ℕ, ◌*◌, ◌%◌, ◌≤◌}
 use lib.ListN.{length, take, replicate}
 use lib.Ieee.{Float, binary64, of_bits}
-use borrow.Author.Tests.{eq-eqb}
-use Rattle.loops.specs.Logic.{and_both}
 use Rattle.std.specs.Prelude.{Result, Ok, Err, is_ok}
 use Rattle.reply.specs.declared.Refused.{Refused}
 use Rattle.reply.specs.Reply.{reply, replied, value_or, reply-lent, reply-taken, reply-yes}
@@ -15,7 +13,8 @@ use Rattle.cosine_circle.proofs.Sizes.{sized, even, few}
 use Rattle.mdct.specs.Imdct.{imdct, imdct_takes, takes-frame, takes_fits}
 use Rattle.mdct_work.specs.Work.{total, pair_sums, values}
 use Rattle.mdct_pairs.proofs.Lent.{lent-count}
-use Rattle.mdct_pairs.specs.Pairs.{pair_takes, pair_reply, summed, Sums}
+use Rattle.mdct_pairs.proofs.Takes.{takes}
+use Rattle.mdct_pairs.specs.Pairs.{pair_reply, summed, Sums}
 use Rattle.mdct_mirrored.proofs.Same.{mirrored-same}
 use Rattle.mdct_mirrored.specs.Mirrored.{Transform, mirrored_outputs, mirrored, transformed, mirrored_reply}
 
@@ -36,18 +35,14 @@ module _ (n m : ℕ) (t : imdct_takes n m ≡ true) where
 
 -- pair_sums takes a frame's inputs and as much room
 module _ (xs was : List Float) (f : is_frame_size (length xs) ≡ true) (l : length was ≡ length xs) where
-  takes : pair_takes (length xs) (length was) ≡ true
-  unfolding pair_takes
-  takes = and_both _ _ f (eq-eqb (length was) (length xs) l)
-
   pub sums-taken : {r : Result ℕ Refused} {e : Refused} {y : Sums} → replied r y ≡ pair_reply xs was → r ≡ Err e → ⊥
   unfolding pair_reply
-  sums-taken q e = let t = sym (ap is_ok e) ∙ reply-taken _ _ _ q ∙ takes in (cc)
+  sums-taken q e = let t = sym (ap is_ok e) ∙ reply-taken _ _ _ q ∙ takes xs was f l in (cc)
 
   pub summed-is : {r : Result ℕ Refused} {p : ℕ} {y : List Float} → replied r (summed y (value_or 0 r)) ≡ pair_reply xs was → r ≡ Ok p
       → summed y p ≡ summed (values (pair_sums (length xs) xs)) (total (pair_sums (length xs) xs))
   unfolding pair_reply
-  summed-is {y = y} q e = ap (λ r. summed y (value_or 0 r)) (sym e) ∙ reply-lent _ _ _ q takes
+  summed-is {y = y} q e = ap (λ r. summed y (value_or 0 r)) (sym e) ∙ reply-lent _ _ _ q (takes xs was f l)
 
 module _ (xs out : List Float) where
   pub taken : (sums y : List Float) (p : ℕ) → imdct_takes (length xs) (length out) ≡ true → length sums ≡ length xs

@@ -2,6 +2,6 @@
 pub mod Lent
 pub mod PairLanes
 pub mod Steps
+pub mod Takes
 pub mod Two
 mod Eights
-mod Takes

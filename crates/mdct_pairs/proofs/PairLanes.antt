@@ -5,14 +5,14 @@ use mathlib.Core.Logic.{⊎_elim}
 use Prim.Native.Nat.{ℕ, ◌+◌, ◌*◌, ◌/◌, ◌%◌, ◌≤◌, ◌<◌}
 use native.Mathlib.Omega.{arith}
 use native.Mathlib.Nat.{mod-add-mod, mod-lt, mod-eq_of_lt, mul_comm, mul_assoc, div-add-mod', add-mul-mod_self_right}
-use lib.ListN.{length, get_or, replicate}
+use lib.ListN.{length, get_or}
 use lib.Ieee.{Float, nan, binary64, of_bits, add, mul}
 use Rattle.loops.specs.Front.{tab, tab-same, get_or-tab}
-use Rattle.loops.specs.Sum.{sum_to, sum-none, sum_more}
+use Rattle.loops.specs.Sum.{sum_to, sum_more}
 use Rattle.cosine_circle.proofs.Sizes.{Size, even, at_least, at_most}
 use Rattle.mdct.specs.Imdct.{imdct_term}
 use Rattle.mdct.proofs.Angles.{place, place-less, place_none, place-more}
-use Rattle.mdct.proofs.Fronts.{tab-const}
+use Rattle.mdct.proofs.Lanes.{places}
 use Rattle.cosine_pairs.specs.Pairs.{pair_at, pairs_of}
 use Rattle.cosine_pairs.proofs.Turns.{either}
 use Rattle.mdct_pairs.specs.Inputs.{input_at, inputs_of}
@@ -27,10 +27,7 @@ twice-around p m h =
     let split : 2 * p ≡ 2 * r + q * (2 * m) = omega (arith, div-add-mod' p m) in
     ap (λ y. y % (2 * m)) split ∙ add-mul-mod_self_right (2 * r) q (2 * m) ∙ mod-eq_of_lt (omega (arith, mod-lt p h))
 
--- where lane j reads the pair of input k, before and after it has gone its step on, and the sum of output e over the inputs before k
-abbrev pub places : ℕ → ℕ → ℕ → ℕ → ℕ
-places n t k j = place n (t + j) k
-
+-- how far lane j goes on, and the sum of output e over the inputs before k
 abbrev pub step_of : ℕ → ℕ → ℕ → ℕ
 step_of n t j = 2 * (t + j) + 1 + n
 
@@ -39,9 +36,6 @@ output_of n t e = t + e / 2 + e % 2 * n
 
 abbrev pub sums : ℕ → List Float → ℕ → ℕ → ℕ → Float
 sums n xs t k e = sum_to binary64 (imdct_term n xs (output_of n t e)) (of_bits binary64 0) k
-
-pub sums_none : (n : ℕ) (xs : List Float) (t : ℕ) → replicate 8 (of_bits binary64 0) ≡ tab (sums n xs t 0) 8
-sums_none n xs t = tab-const (sums n xs t 0) (of_bits binary64 0) 8 (λ i h. sum-none _ _ _)
 
 module _ (n t : ℕ) (z : Size n) (room : 2 * t + 8 ≤ n) where
   some : 0 < n

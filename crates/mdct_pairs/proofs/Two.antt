@@ -15,7 +15,8 @@ use Rattle.mdct.specs.Imdct.{imdct_sum}
 use Rattle.cosine_pairs.specs.Pairs.{pairs_of}
 use Rattle.mdct_pairs.specs.Inputs.{inputs_of}
 use Rattle.mdct_pairs.specs.declared.lanes.Tables.{Tables}
-use Rattle.mdct_pairs.proofs.PairLanes.{places, sums, on-table, before, moved, turned, sums-more}
+use Rattle.mdct.proofs.Lanes.{places}
+use Rattle.mdct_pairs.proofs.PairLanes.{sums, on-table, before, moved, turned, sums-more}
 use Rattle.mdct_pairs.proofs.PairLanes.{step_of, first_on, second-on, third-on, first-in, second-in, first_small, second-small, third-small}
 
 -- ---- lengths of what is lent

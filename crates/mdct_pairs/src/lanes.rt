@@ -114,7 +114,8 @@ impl Tables<'_> {
             × (result ≡ total (pair_sums (length self.entry.x.now) self.entry.x.now)) }
     {
         let mut products = 0;
-        // By number, as in `mdct`: of parts lent in eights a proof knows how many there are, not what they leave.
+        // By number, as `outputs` in mdct, which says why the two walks are two: of parts lent in eights a proof knows how many
+        // there are, not what they leave.
         for k in 0..sums.len() / 8 {
             let t = 8 * k;
             let made = self.four(4 * k);

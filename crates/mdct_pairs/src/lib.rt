@@ -5,10 +5,10 @@
 ghost use Rattle.std.specs.Prelude.{◌≡◌, true, ◌*◌, ◌≤◌, length};
 ghost use Rattle.reply.specs.Reply.{replied, value_or};
 ghost use Rattle.cosine_circle.specs.Circle.{is_frame_size};
-ghost use Rattle.mdct_pairs.specs.Pairs.{pair_takes, pair_reply, summed};
+ghost use Rattle.mdct_pairs.specs.Pairs.{pair_reply, summed};
 ghost use Rattle.mdct_work.specs.Work.{values, total, pair_sums};
 
-use cosine_circle::{FRAME_LEAST, is_frame_size};
+use cosine_circle::{FRAME_LEAST, FRAME_MOST, is_frame_size};
 use cosine_pairs::fill_pairs;
 use inputs::fill_inputs;
 use lanes::Tables;
@@ -16,6 +16,15 @@ use reply::Refused;
 
 mod inputs;
 mod lanes;
+
+// The places of both tables, for the shortest frame and for the longest: by names, since a const argument is no product.
+const LEAST_PAIRS: usize = 12 * FRAME_LEAST;
+
+const LEAST_INPUTS: usize = 2 * FRAME_LEAST;
+
+const MOST_PAIRS: usize = 12 * FRAME_MOST;
+
+const MOST_INPUTS: usize = 2 * FRAME_MOST;
 
 // Makes both tables, of cosines and of inputs, and the sums from them.
 fn sums_by_tables(
@@ -55,27 +64,20 @@ fn sums_within<const P: usize, const I: usize>(spectrum: &[f32], sums: &mut [f64
     sums_by_tables(&mut pairs[..12 * n], &mut inputs[..2 * n], spectrum, sums)
 }
 
-// Whether there are as many inputs as one of the four frame sizes, and room for as many sums.
-#[tactic(auto, using(std::proofs::lemmas::Bool::Decides::nat_tests), unfolding(crate::specs::Pairs::pair_takes))]
-fn pair_takes(inputs: usize, sums: usize) -> bool
-    ensures { result ≡ pair_takes inputs sums }
-{
-    is_frame_size(inputs) && sums == inputs
-}
-
 // Half of the sums of n inputs, n one of the four frame sizes: of outputs t and n + t side by side, for t below n / 2. Answers
 // how many products were made. Any other lengths are refused, and sums stays as it was.
+#[tactic(auto, using(std::proofs::lemmas::Bool::Decides::nat_tests), unfolding(crate::specs::Pairs::pair_reply, crate::specs::Pairs::pair_takes, reply::specs::Reply::reply_if))]
 pub fn pair_sums(spectrum: &[f32], sums: &mut [f64]) -> Result<usize, Refused>
     ensures { replied result (summed sums.new (value_or 0 result)) ≡ pair_reply spectrum.now sums.old }
 {
     let n = spectrum.len();
-    if !pair_takes(n, sums.len()) {
+    if !is_frame_size(n) || sums.len() != n {
         return Err(Refused);
     }
     // The shortest frame has tables of its own: clearing the longest frame's would take half as long as the shortest's sums.
     if n == FRAME_LEAST {
-        Ok(sums_within::<1_440, 240>(spectrum, sums))
+        Ok(sums_within::<LEAST_PAIRS, LEAST_INPUTS>(spectrum, sums))
     } else {
-        Ok(sums_within::<11_520, 1_920>(spectrum, sums))
+        Ok(sums_within::<MOST_PAIRS, MOST_INPUTS>(spectrum, sums))
     }
 }

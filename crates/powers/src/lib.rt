@@ -264,7 +264,7 @@ const POWERS: [f64; 256] = [
     1.9945921121709402,
 ];
 
-// i counts modulo 256.
+// i counts modulo 256: total, as no public function asks anything.
 pub fn power_at(i: u64) -> f64
     ensures { result ≡ power (i % 256) }
 {

@@ -16,7 +16,7 @@ pub along-at-requires : goal.along-at-requires
 along-at-requires c = first-along _ c.args.t c.args.self.frame c.requires
 
 pub loop-value-init : goal.loop-value-init
-loop-value-init c = (places-none _ _ (sized _ c.args.self.frame) _ c.along-at.ensures, sums_none _ _ _)
+loop-value-init c = (places-none _ _ (sized _ c.args.self.frame) _ c.along-at.ensures, sums_none _)
 
 pub add_terms-requires : goal.add_terms-requires
 add_terms-requires c = record { by_index = places-on _ _ (sized _ c.args.self.frame) c.loop-value.value-index _ c.loop-value.invariant.0 }

@@ -8,29 +8,37 @@ use lib.Ieee.{nan}
 use Rattle.loops.specs.Front.{tab}
 use Rattle.mdct.specs.Imdct.{imdct_sum}
 use Rattle.cosine_circle.proofs.Sizes.{sized, even, few}
-use Rattle.mdct_pairs.proofs.PairLanes.{places, sums, sums_none, places-none}
-use Rattle.mdct_pairs.proofs.Two.{short-step, turn, more-left, of-four, two-of, inputs-count, pairs-in, reads, small, reads-1, small-1, sums-2, small-2, lanes-3}
+use Rattle.mdct_pairs.proofs.PairLanes.{sums, places-none}
+use Rattle.mdct.proofs.Lanes.{places, sums_none}
+use Rattle.mdct_pairs.proofs.Two.{short-step, Turn, turn, more-left, of-four, two-of, inputs-count, pairs-in, reads, small, reads-1, small-1, sums-2, small-2, lanes-3}
+use Rattle.mdct_pairs.proofs.lanes.Tables.four.Goals.{In-loop-four}
 use Rattle.mdct_pairs.proofs.lanes.Tables.four.Goals as goal
 
 pub first_places-at-requires : goal.first_places-at-requires
 first_places-at-requires c = let f = few _ c.args.self.frame in (omega arith, f)
 
 pub loop-four-init : goal.loop-four-init
-loop-four-init c = (places-none _ _ (sized _ c.args.self.frame) c.requires _ c.first_places-at.ensures, sums_none _ _ _, refl)
+loop-four-init c = (places-none _ _ (sized _ c.args.self.frame) c.requires _ c.first_places-at.ensures, sums_none _, refl)
+
+-- a turn is under way, as each call in it asks
+begun : (c : In-loop-four)
+    → Turn c.args.self.x.now c.args.self.pairs.now c.args.self.inputs.now c.args.t c.loop-four.four-index c.loop-four.at c.loop-four.acc
+begun c =
+    turn c.args.self c.requires (more-left c.args.self _ c.as_chunks.ensures.front_len c.loop-four-test.true) c.loop-four.invariant.0 c.loop-four.invariant.1
 
 pub add_terms-requires : goal.add_terms-requires
 add_terms-requires c =
-    let w = turn c.args.self c.requires (more-left c.args.self _ c.as_chunks.ensures.front_len c.loop-four-test.true) c.loop-four.invariant.0 c.loop-four.invariant.1 in
+    let w = begun (goal.at.add_terms-requires c).In-loop-four in
     record { pairs_len = pairs-in w; by_index = reads w }
 
 pub onward-requires : goal.onward-requires
 onward-requires c =
-    let w = turn c.args.self c.requires (more-left c.args.self _ c.as_chunks.ensures.front_len c.loop-four-test.true) c.loop-four.invariant.0 c.loop-four.invariant.1 in
+    let w = begun (goal.at.onward-requires c).In-loop-four in
     record { step_bound = short-step _ _ (few _ c.args.self.frame) c.requires; by_index = small w }
 
 pub add_terms-requires-in-loop-four : goal.add_terms-requires-in-loop-four
 add_terms-requires-in-loop-four c =
-    let w = turn c.args.self c.requires (more-left c.args.self _ c.as_chunks.ensures.front_len c.loop-four-test.true) c.loop-four.invariant.0 c.loop-four.invariant.1 in
+    let w = begun (goal.at.add_terms-requires-in-loop-four c).In-loop-four in
     record {
       pairs_len = pairs-in w;
       by_index = reads-1 w _ _ refl c.onward.ensures;
@@ -38,7 +46,7 @@ add_terms-requires-in-loop-four c =
 
 pub onward-requires-in-loop-four : goal.onward-requires-in-loop-four
 onward-requires-in-loop-four c =
-    let w = turn c.args.self c.requires (more-left c.args.self _ c.as_chunks.ensures.front_len c.loop-four-test.true) c.loop-four.invariant.0 c.loop-four.invariant.1 in
+    let w = begun (goal.at.onward-requires-in-loop-four c).In-loop-four in
     record {
       step_bound = short-step _ _ (few _ c.args.self.frame) c.requires;
       by_index = small-1 w _ _ refl c.onward.ensures;
@@ -46,12 +54,12 @@ onward-requires-in-loop-four c =
 
 pub around-requires : goal.around-requires
 around-requires c =
-    let w = turn c.args.self c.requires (more-left c.args.self _ c.as_chunks.ensures.front_len c.loop-four-test.true) c.loop-four.invariant.0 c.loop-four.invariant.1 in
+    let w = begun (goal.at.around-requires c).In-loop-four in
     small-2 w _ _ refl c.onward.ensures _ c.onward-in-loop-four.ensures
 
 pub loop-four-preserved : goal.loop-four-preserved
 loop-four-preserved c =
-    let w = turn c.args.self c.requires (more-left c.args.self _ c.as_chunks.ensures.front_len c.loop-four-test.true) c.loop-four.invariant.0 c.loop-four.invariant.1 in
+    let w = begun (goal.at.loop-four-preserved c).In-loop-four in
     let n = length c.args.self.x.now in
     let l = c.loop-four in
     let f = λ (j : ℕ) (g : j < 4).

@@ -2,7 +2,8 @@
 use mathlib.Core.Path.{◌≡◌}
 use Prim.Native.Nat.{ℕ, ◌*◌}
 use Rattle.loops.specs.Front.{tab}
-use Rattle.mdct_pairs.proofs.PairLanes.{places, sums}
+use Rattle.mdct.proofs.Lanes.{places}
+use Rattle.mdct_pairs.proofs.PairLanes.{sums}
 use Rattle.mdct_pairs.proofs.lanes.Tables.four.Given as goal
 
 abbrev pub invariant-loop-four : goal.invariant-loop-four
