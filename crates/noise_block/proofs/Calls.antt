@@ -2,12 +2,11 @@
 use mathlib.Core.Path.{◌≡◌, ap, ap₂, ◌∙◌, sym}
 use mathlib.Core.List.{List}
 use mathlib.Core.Bool.{Bool, true}
-use Prim.Native.Nat.{ℕ, ◌+◌, ◌*◌, ◌%◌, ◌^◌, ◌≤◌, ◌<◌}
+use Prim.Native.Nat.{ℕ, ◌+◌, ◌*◌, ◌^◌, ◌≤◌, ◌<◌}
 use native.Mathlib.Omega.{arith}
-use native.Mathlib.Nat.{one-mul}
-use lib.Pow.{pow_pos, pow_mono, shl_exact}
+use lib.Pow.{pow_pos, pow_mono}
 use lib.ListN.{length}
-use lib.Dec.{leb, ltb, eqb, lit<}
+use lib.Dec.{leb, ltb, eqb}
 use lib.Ieee.{Float}
 use borrow.Author.Tests.{leb-true, ltb-true}
 use Rattle.loops.specs.Front.{tab}
@@ -26,9 +25,6 @@ use Rattle.noise_block.specs.Block.{windowed, noise_block}
 use Rattle.noise_block.specs.Call.{settings_fit, block_takes}
 
 -- ---- the block factor
-
-pub factor-is : (lm : ℕ) → lm ≤ 3 → 1 * 2 ^ lm % 2 ^ 64 ≡ 2 ^ lm
-factor-is lm h = shl_exact {a = 1} 1 lm 64 (lit< tt) (omega arith) ∙ one-mul (2 ^ lm)
 
 pub factor-in : (lm x : ℕ) → lm ≤ 3 → x ≡ 2 ^ lm → (x ≡ 2 ^ lm) × (1 ≤ x) × (x ≤ 8)
 factor-in lm x h e =

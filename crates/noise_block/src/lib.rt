@@ -39,7 +39,8 @@ fn block_takes(lm: usize, span: Span, energies: usize, size: usize) -> bool
         && size == SHORT_BLOCK * factor(lm) + OVERLAP
 }
 
-// A channel's noise block in a buffer of N + 120 samples, from its 25 energies: answers the seed after it.
+// A channel's noise block in a buffer of N + 120 samples, from its 25 energies: answers the seed after it. As in `noise_spectrum`
+// another number of samples or energies is promised a refusal: so lm stands beside the buffer, and the energies are a slice.
 pub fn noise_block(
     block: &mut [f32],
     lm: usize,

@@ -1,9 +1,8 @@
 -- The noise block of a channel, and a history with each used channel under its own.
-use mathlib.Core.Path.{◌≡◌, subst, ap, ap₂, ◌∙◌, sym}
+use mathlib.Core.Path.{◌≡◌, ap, ap₂, ◌∙◌, sym}
 use mathlib.Core.Bool.{Bool, true, false, cond, ◌&&◌}
-use mathlib.Core.List.{List}
+use mathlib.Core.List.{List, ◌++◌}
 use Prim.Native.Nat.{ℕ, ◌+◌, ◌*◌, ◌^◌}
-use native.Mathlib.Omega.{arith}
 use lib.ListN.{length, take, drop}
 use lib.Dec.{eqb}
 use lib.Ieee.{Float}
@@ -13,14 +12,14 @@ use Rattle.loops.specs.Part.{put}
 use Rattle.std.specs.Prelude.{Result, Ok}
 use Rattle.reply.specs.declared.Refused.{Refused}
 use Rattle.reply.specs.Reply.{Reply, reply, replied, value_or, reply_if, reply-lent, reply-taken}
-use Rattle.history.specs.History.{half, overlap, channel, whole, Tail, Tails, tail_at, tails, with_tails, tail_list}
-use Rattle.history.proofs.Parts.{TailSized, Sized, first-sized, second-sized, tails-with, put_first, put_both}
+use Rattle.history.specs.History.{half, overlap, channel, whole, Tail, tail_at, tails, with_tails, tail_list}
 use Rattle.settings.specs.Settings.{factor, frame, stereo, check_settings}
 use Rattle.settings.specs.declared.Settings.{Settings}
-use Rattle.settings.proofs.Passed.{passed, frame-low, frame-high, downsample_low}
-use Rattle.noise_block.specs.Block.{Block, drawn_block, noise_block, length-block}
+use Rattle.settings.proofs.Passed.{passed, downsample_low}
+use Rattle.noise_block.specs.Block.{Block, drawn_block, noise_block}
 use Rattle.noise_block.specs.Call.{settings_fit, block_takes}
-use Rattle.noise_cover.specs.Cover.{covered_tail, length_covered_new, length_covered_over}
+use Rattle.noise_cover.specs.Cover.{covered_tail}
+use Rattle.noise_loss.proofs.Halves.{first-tail, second-tail, joined, kept}
 use Rattle.noise_loss.specs.Loss.{channel_block, Blocks, noise_blocks, noise_seed, noise_tails, noised, after_noise, noise_takes}
 
 module _ (k : Settings) (good : check_settings k ≡ 0) where
@@ -54,19 +53,10 @@ module _ (k : Settings) (good : check_settings k ≡ 0) where
     unfolding channel_block factor
     block-drawn {y = y} q h = ap (λ r. drawn_block y (value_or seed r)) (sym h) ∙ reply-lent _ _ _ q takes
 
-  pub length-channel_block : (seed : ℕ) (e : List Float) → length (channel_block k seed e).samples ≡ frame k + overlap
-  unfolding channel_block frame
-  length-channel_block seed e = length-block (factor k) k.start k.end k.downsample seed e
-
-  covered_sized : (t : Tail) → TailSized t → (seed : ℕ) (e : List Float) → TailSized (covered_tail (frame k) (channel_block k seed e).samples t)
-  covered_sized t z seed e =
-      let l = length-channel_block seed e in
-      let a = frame-low k good in
-      let b = frame-high k good in
-      record {
-        new = length_covered_new (frame k) (channel_block k seed e).samples t a (omega arith) l z.new;
-        over = length_covered_over (frame k) (channel_block k seed e).samples t a (omega arith) l;
-      }
+  -- a channel with its block laid over it
+  abbrev laid : ℕ → List Float → List Float → List Float
+  laid seed e p =
+      put half (half + overlap) (tail_list (covered_tail (frame k) (channel_block k seed e).samples (tail_at 0 p))) p
 
   module _ (h : List Float) (l : length h ≡ whole) (seed : ℕ) (e : List Float) where
     abbrev blocks : Blocks
@@ -78,50 +68,38 @@ module _ (k : Settings) (good : check_settings k ≡ 0) where
     abbrev two : Tail
     two = covered_tail (frame k) blocks.second.samples (tail_at channel h)
 
-    -- the first channel's block, from the energies that it is lent
-    pub first-is : (first : List Float) (r : ℕ) (y : List Float) → first ≡ take 25 e
-        → (r ≡ (channel_block k seed first).seed)
-        × (y ≡ put half (half + overlap) (tail_list (covered_tail (frame k) (channel_block k seed first).samples (tail_at 0 h))) h)
-        → (r ≡ (channel_block k seed (take 25 e)).seed)
-        × (y ≡ put half (half + overlap) (tail_list (covered_tail (frame k) (channel_block k seed (take 25 e)).samples (tail_at 0 h))) h)
-    first-is first r y f p =
-        subst (λ z. (r ≡ (channel_block k seed z).seed)
-        × (y ≡ put half (half + overlap) (tail_list (covered_tail (frame k) (channel_block k seed z).samples (tail_at 0 h))) h)) f p
+    module _ (p f x : List Float) (r : ℕ) (ep : p ≡ take channel h) (ef : f ≡ take 25 e) (er : r ≡ (channel_block k seed f).seed)
+        (ex : x ≡ laid seed f p) where
+      seed-is : r ≡ blocks.first.seed
+      unfolding noise_blocks
+      seed-is = er ∙ ap (λ z. (channel_block k seed z).seed) ef
 
-    pub mono-is : stereo k ≡ false → (r : ℕ) (y : List Float) → r ≡ (channel_block k seed (take 25 e)).seed
-        → y ≡ put half (half + overlap) (tail_list (covered_tail (frame k) (channel_block k seed (take 25 e)).samples (tail_at 0 h))) h
-        → noised y r ≡ after_noise k seed e h
-    unfolding after_noise noise_seed noise_tails noise_blocks tails
-    mono-is n r y p q =
-        ap₂ noised (q ∙ put_first h l one) p
-        ∙ ap (λ b. noised (with_tails h (record { first = one; second = cond b two (tail_at channel h) })) (cond b blocks.second.seed blocks.first.seed))
-        (sym n)
+      first-is : x ≡ put half (half + overlap) (tail_list one) (take channel h)
+      unfolding noise_blocks
+      first-is =
+          ex ∙ ap₂ (laid seed) ef ep
+          ∙ ap (λ t. put half (half + overlap) (tail_list (covered_tail (frame k) blocks.first.samples t)) (take channel h)) (first-tail h l)
 
-    -- the second channel's tail, after the first one's was written
-    second-kept : (y : List Float) → y ≡ put half (half + overlap) (tail_list one) h → tail_at channel y ≡ tail_at channel h
-    unfolding tails noise_blocks
-    second-kept y q =
-        let z : Sized (record { first = one; second = tail_at channel h }) =
-        record { first = covered_sized (tail_at 0 h) (first-sized h l) seed (take 25 e); second = second-sized h l } in
-        ap (tail_at channel) (q ∙ put_first h l one)
-        ∙ ap (λ (t : Tails). t.second) (tails-with h (record { first = one; second = tail_at channel h }) l z)
+      -- the second channel as it was
+      pub mono-is : (q : List Float) → stereo k ≡ false → q ≡ drop channel h → noised (x ++ q) r ≡ after_noise k seed e h
+      unfolding after_noise noise_seed noise_tails tails
+      mono-is q n eq =
+          ap₂ noised (joined h l one (tail_at channel h) x q first-is (eq ∙ kept h l)) seed-is
+          ∙ ap (λ b. noised (with_tails h (record { first = one; second = cond b two (tail_at channel h) })) (cond b blocks.second.seed blocks.first.seed))
+          (sym n)
 
-    pub stereo-is : stereo k ≡ true → (r s : ℕ) (d y x : List Float) → d ≡ drop 25 e → r ≡ (channel_block k seed (take 25 e)).seed
-        → y ≡ put half (half + overlap) (tail_list (covered_tail (frame k) (channel_block k seed (take 25 e)).samples (tail_at 0 h))) h
-        → s ≡ (channel_block k r d).seed
-        → x ≡ put (channel + half) (half + overlap) (tail_list (covered_tail (frame k) (channel_block k r d).samples (tail_at channel y))) y
-        → noised x s ≡ after_noise k seed e h
-    unfolding after_noise noise_seed noise_tails noise_blocks tails
-    stereo-is c r s d y x i p q f g =
-        let b : channel_block k r d ≡ blocks.second = ap₂ (channel_block k) p i in
-        let u : covered_tail (frame k) (channel_block k r d).samples (tail_at channel y) ≡ two =
-        ap₂ (λ (v : Block) t. covered_tail (frame k) v.samples t) b (second-kept y q) in
-        let w : x ≡ with_tails h (record { first = one; second = two }) =
-        g ∙ ap₂ (λ t v. put (channel + half) (half + overlap) (tail_list t) v) u q
-        ∙ put_both h one two l (covered_sized (tail_at 0 h) (first-sized h l) seed (take 25 e)) in
-        ap₂ noised w (f ∙ ap (λ (v : Block). v.seed) b)
-        ∙ ap (λ t. noised (with_tails h (record { first = one; second = cond t two (tail_at channel h) })) (cond t blocks.second.seed blocks.first.seed))
-        (sym c)
+      -- or under its own block, from the first one's seed
+      pub stereo-is : (q d y : List Float) (s : ℕ) → stereo k ≡ true → q ≡ drop channel h → d ≡ drop 25 e → s ≡ (channel_block k r d).seed
+          → y ≡ laid r d q → noised (x ++ y) s ≡ after_noise k seed e h
+      unfolding after_noise noise_seed noise_tails noise_blocks tails
+      stereo-is q d y s c eq ed es ey =
+          let b : channel_block k r d ≡ blocks.second = ap₂ (channel_block k) seed-is ed in
+          let w : y ≡ put half (half + overlap) (tail_list two) (drop channel h) =
+          ey ∙ ap (laid r d) eq
+          ∙ ap₂ (λ (v : Block) t. put half (half + overlap) (tail_list (covered_tail (frame k) v.samples t)) (drop channel h)) b (second-tail h l) in
+          ap₂ noised (joined h l one two x y first-is w) (es ∙ ap (λ (v : Block). v.seed) b)
+          ∙ ap (λ t. noised (with_tails h (record { first = one; second = cond t two (tail_at channel h) })) (cond t blocks.second.seed blocks.first.seed))
+          (sym c)
 
 -- which calls are taken
 module _ (k : Settings) (n : ℕ) where

@@ -1,2 +1,3 @@
 pub mod Channels
+mod Halves
 mod Sizes

@@ -20,21 +20,16 @@ use settings::Settings;
 use settings::checks::settings_pass;
 use sizes::frame_size;
 
-// One channel, whose samples start at `at`, from its 25 energies; the seed after its block.
-fn noise_channel(
-    history: &mut [f32],
-    at: usize,
-    k: Settings,
-    seed: u32,
-    energies: &[f32; MAX_BANDS],
-) -> u32
-    requires { (check_settings k ≡ 0) × (at + channel ≤ length history.old) }
+// One channel with its overlap, from its 25 energies; the seed after its block.
+fn noise_channel(part: &mut [f32], k: Settings, seed: u32, energies: &[f32; MAX_BANDS]) -> u32
+    requires { (check_settings k ≡ 0) × (length part.old ≡ channel) }
     ensures { (result ≡ (channel_block k seed energies.now).seed)
-        × (history.new ≡ put (at + half) (half + overlap)
-        (tail_list (covered_tail (frame k) (channel_block k seed energies.now).samples (tail_at at history.old))) history.old) }
+        × (part.new ≡ put half (half + overlap)
+        (tail_list (covered_tail (frame k) (channel_block k seed energies.now).samples (tail_at 0 part.old))) part.old) }
 {
     let n = frame_size(k.lm);
-    // Only here do settings become a span: a `From` would stand in `noise_spectrum`, which names no settings.
+    // Only here do settings become a span: a `From` would stand in `noise_spectrum`, which names no settings. They become it by
+    // casts, as lm below: the library makes no usize of a word without a case for failure.
     let span = Span {
         start: k.start as usize,
         end: k.end as usize,
@@ -44,8 +39,7 @@ fn noise_channel(
     let mut room = [0.0f32; BLOCK_MOST];
     let block = &mut room[..n + OVERLAP];
     let after = noise_block(block, k.lm as usize, span, seed, energies).unwrap();
-    let from = at + (SAMPLES - n);
-    lay(&mut history[from..at + CHANNEL], block).unwrap();
+    lay(&mut part[SAMPLES - n..], block).unwrap();
     after
 }
 
@@ -63,9 +57,10 @@ pub fn noise_loss(
     if !settings_pass(k) || history.len() != WHOLE {
         return Err(Refused);
     }
-    let one = noise_channel(history, 0, k, seed, energies.first_chunk().unwrap());
+    let (first, second) = history.split_at_mut(CHANNEL);
+    let one = noise_channel(first, k, seed, energies.first_chunk().unwrap());
     if k.is_stereo() {
-        Ok(noise_channel(history, CHANNEL, k, one, energies.last_chunk().unwrap()))
+        Ok(noise_channel(second, k, one, energies.last_chunk().unwrap()))
     } else {
         Ok(one)
     }

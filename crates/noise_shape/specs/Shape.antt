@@ -86,7 +86,8 @@ module _ (m start : ℕ) where
       let u : lo m start ≤ lo m (start + n) = mul-le-mul_left m (edge-up start n (omega arith)) in
       let v = band_in m (start + n) (omega arith) in
       let k : start + suc n ≡ start + n + 1 = omega arith in
-      let e : d + w ≡ lo m (start + suc n) - lo m start = (let x : d + w ≡ lo m (start + n + 1) - lo m start = omega arith in x) ∙ ap (λ z. lo m z - lo m start) (sym k) in
+      let x : d + w ≡ lo m (start + n + 1) - lo m start = omega arith in
+      let e : d + w ≡ lo m (start + suc n) - lo m start = x ∙ ap (λ z. lo m z - lo m start) (sym k) in
       ap (draws w) (seed_after a n (omega arith)) ∙ sym (draws-add d w a.seed) ∙ ap (λ z. draws z a.seed) e
 
   pub size-after : (a : Shape) (n : ℕ) → start + n ≤ bands → m * last_edge ≤ length a.bins → length (fold_to turn a n).bins ≡ length a.bins
@@ -108,6 +109,7 @@ module _ (m start : ℕ) where
       ∙ ap (λ z. draws (lo m z - lo m start) seed) e
       ∙ ap (λ z. draws z seed) (sym (mul-sub m last_edge (edge start)))
 
-  pub length-noise_shape : (seed : ℕ) (bins : List Float) → start ≤ bands → m * last_edge ≤ length bins → length (noise_shape m start seed bins).bins ≡ length bins
+  pub length-noise_shape : (seed : ℕ) (bins : List Float) → start ≤ bands → m * last_edge ≤ length bins
+      → length (noise_shape m start seed bins).bins ≡ length bins
   unfolding noise_shape fold_range turn
   length-noise_shape seed bins h l = size-after (record { bins = bins; seed = seed }) (bands - start) (omega arith) l

@@ -9,12 +9,12 @@ ghost use Rattle.custom_mode.specs.Mode.{bands, last_edge};
 ghost use Rattle.noise_shape.specs.Shape.{band_noise, shaped, noise_shape, shape_takes};
 
 use band_quant::renormalise_vector;
-use custom_mode::standard::{BANDS, LAST_EDGE, band_edge};
+use custom_mode::standard::{BANDS, LAST_EDGE, LM_MOST, band_edge};
 use draw::noise_fill;
 use reply::Refused;
 
 // The largest block factor.
-pub const FACTOR_MOST: usize = 8;
+pub const FACTOR_MOST: usize = 1 << LM_MOST;
 
 fn band_noise(part: &mut [f32], seed: u32) -> u32
     ensures { (result ≡ draws (length part.old) seed) × (part.new ≡ band_noise (length part.old) seed) }
@@ -52,7 +52,7 @@ fn shape_fits(m: usize, start: usize, size: usize) -> bool
 }
 
 // Noise over the bins lent, at block factor m: answers the seed after all draws. Refused, with the bins as lent: a factor
-// above 8, a start above 21, fewer than 100 m bins.
+// above 8, a start above 21, fewer than 100 m bins. Of more bins m cannot be found from their number, so it is told.
 pub fn noise_shape(bins: &mut [f32], m: usize, start: usize, seed: u32) -> Result<u32, Refused>
     ensures { replied result (shaped bins.new (value_or seed result))
         ≡ reply_if (shape_takes m start (length bins.old)) (noise_shape m start seed bins.old) (shaped bins.old seed) }

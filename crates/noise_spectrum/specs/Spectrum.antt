@@ -1,5 +1,6 @@
 -- The spectrum of a noise block: each band below end times its gain, and zeros from the bound on.
-use Rattle.std.specs.Prelude.{◌≡◌, refl, List, ◌++◌, map, Bool, true, false, cond, not, ◌&&◌, ℕ, zero, suc, ◌+◌, ◌*◌, ◌-◌, ◌/◌, ◌≤◌, ◌<◌, length, get_or, take, drop, replicate, eqb, ltb, leb, Float}
+use Rattle.std.specs.Prelude.{◌≡◌, refl, Bool, true, false, cond, not, ◌&&◌, ℕ, zero, suc, ◌+◌, ◌*◌, ◌-◌, ◌/◌, ◌≤◌, ◌<◌, eqb, ltb, leb}
+use Rattle.std.specs.Prelude.{List, ◌++◌, map, length, get_or, take, drop, replicate, Float}
 use Rattle.std.proofs.Common.{◌∙◌, arith, length-append, length-drop, length-take-le, ltb-true}
 use Rattle.std.proofs.lemmas.List.{length-replicate, length-map}
 use Rattle.std.specs.Float.{nan, binary32}
@@ -54,20 +55,23 @@ spectrum_fits m start end downsample = leb m 8 && span_fits start end downsample
 unfoldable pub spectrum_takes : ℕ → ℕ → ℕ → ℕ → ℕ → ℕ → Bool
 spectrum_takes m start end downsample energies size = spectrum_fits m start end downsample && (eqb energies max_bands && eqb size (short_block * m))
 
-pub length-gain_turn : (m : ℕ) (energies bins : List Float) (i : ℕ) → i < bands → m * last_edge ≤ length bins → length (gain_turn m energies bins i) ≡ length bins
+pub length-gain_turn : (m : ℕ) (energies bins : List Float) (i : ℕ) → i < bands → m * last_edge ≤ length bins
+    → length (gain_turn m energies bins i) ≡ length bins
 unfolding gain_turn
 length-gain_turn m energies bins i h l =
     let v = band_in m i h in
     let part = take (width m i) (drop (lo m i) bins) in
     length-put (lo m i) (width m i) (map (times (gain_of_band energies i)) part) bins
-    (length-map part (times (gain_of_band energies i)) ∙ length-take-le (width m i) (drop (lo m i) bins) (omega (arith, length-drop (lo m i) bins))) (omega arith)
+    (length-map part (times (gain_of_band energies i))
+    ∙ length-take-le (width m i) (drop (lo m i) bins) (omega (arith, length-drop (lo m i) bins))) (omega arith)
 
 gains_size : (m start : ℕ) (energies bins : List Float) (n : ℕ) → start + n ≤ bands → m * last_edge ≤ length bins
     → length (fold_to (λ (b : List Float) (k : ℕ). gain_turn m energies b (start + k)) bins n) ≡ length bins
 unfolding fold_to
 gains_size m start energies bins zero h l = refl
 gains_size m start energies bins (suc n) h l =
-    let e : length (fold_to (λ (b : List Float) (k : ℕ). gain_turn m energies b (start + k)) bins n) ≡ length bins = gains_size m start energies bins n (omega arith) l in
+    let e : length (fold_to (λ (b : List Float) (k : ℕ). gain_turn m energies b (start + k)) bins n) ≡ length bins =
+    gains_size m start energies bins n (omega arith) l in
     length-gain_turn m energies (fold_to (λ (b : List Float) (k : ℕ). gain_turn m energies b (start + k)) bins n) (start + n) (omega arith) (omega arith) ∙ e
 
 pub length_gains : (m start end : ℕ) (energies bins : List Float) → start ≤ end → end ≤ bands → m * last_edge ≤ length bins

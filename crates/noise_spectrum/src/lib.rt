@@ -79,7 +79,8 @@ fn spectrum_takes(m: usize, span: Span, energies: usize, size: usize) -> bool
 }
 
 // A channel's spectrum from its 25 energies, over 120 m bins, which come as zeros: answers the seed after all draws. A call with
-// another number of energies is refused: so they are a slice, here and in `apply_gains`.
+// another number of bins or energies is promised a refusal: so m stands beside the bins, whose number would say it, and the
+// energies are a slice, here and in `apply_gains`.
 #[tactic(auto, using(crate::proofs::Calls::takes))]
 pub fn noise_spectrum(
     bins: &mut [f32],
