@@ -19,7 +19,7 @@ const REPORT_BYTES: usize = 4 * REPORT_WORDS;
 
 pub const HEAD_BYTES: usize = REPORT_BYTES + 4 * SAMPLES_MOST;
 
-// The number that a record cut short gets.
+// The number that a record cut short gets, written as document 01 gives it: no call is refused by it, so it is no `Refusal`.
 const CUT_SHORT: u32 = 11;
 
 // Number, kind and sample count, and then the samples; how many bytes they are. A `head` of less than 7,692 bytes and

@@ -3,17 +3,19 @@ use mathlib.Core.Path.{◌≡◌, ◌∙◌, ap, ap₂, subst}
 use mathlib.Core.Bool.{Bool, true, false}
 use mathlib.Core.List.{List}
 use Prim.Native.Nat.{ℕ, ◌+◌, ◌*◌, ◌≤◌}
+use native.Mathlib.Omega.{arith}
 use lib.Dec.{eqb}
 use lib.ListN.{length}
 use lib.Ieee.{Float}
 use borrow.Author.Tests.{le-leb, eq-eqb}
 use denote.Bor.{Bor}
-use Rattle.std.specs.Prelude.{Option, Result, is_ok}
+use Rattle.std.specs.Prelude.{Option, Result, is_ok, is_some}
 use Rattle.std.specs.Bool.{then_some}
 use Rattle.plc_downsample.proofs.Steps.{Left}
 use Rattle.std.specs.Result.{IsOk}
 use Rattle.reply.specs.declared.Refused.{Refused}
 use Rattle.reply.specs.Reply.{replied, reply_if, ok_if, reply-taken}
+use Rattle.plc_best.specs.Best.{best_pitches}
 use Rattle.plc_fir.specs.Fir.{fir_takes}
 use Rattle.plc_iir.specs.Iir.{iir_takes}
 use Rattle.cosine_circle.specs.Circle.{is_frame_size}
@@ -50,6 +52,13 @@ record_takes r b y x was h e p q = reply-taken _ _ _ e ∙ simp (eq-eqb (length 
 pub value_of : {V : Type 0} (r : Result V Refused) (v : V) (n m : ℕ) → r ≡ ok_if (eqb n m) v → n ≡ m → IsOk r
 unfolding ok_if
 value_of r v n m e p = ap is_ok (e ∙ ap (λ z. ok_if z v) (eq-eqb n m p))
+
+-- the samples reach far enough
+pub places_are : (r : Option (ℕ × ℕ)) (xcorr y : List Float) (len : ℕ) → r ≡ best_pitches xcorr y len (length xcorr)
+    → len + length xcorr ≤ length y → is_some r ≡ true
+unfolding best_pitches
+places_are r xcorr y len e h =
+    ap is_some e ∙ simp (le-leb (length xcorr) (length xcorr) (omega arith), le-leb (len + length xcorr) (length y) h)
 
 -- of one channel and of two
 pub channels_take : (two : Bool) (second : Option (Bor (List Float))) (y : Bor (List Float)) (x z low : List Float) (t : Bool) → second ≡ then_some two y

@@ -4,9 +4,10 @@ use band_quant::renormalise_vector;
 use draw::celt_lcg_rand;
 use std::io;
 
-// The widest band.
+// The bins of the widest band, the last of the longest frame.
 const WIDEST: usize = 176;
 
+// A list for the widest band, as the case has it, of which the first bins are used: there is no heap.
 fn answer_band(wire: &mut Wire) -> io::Result<()> {
     let width = WIDEST.min(wire.read()?);
     let mut x = wire.read::<[f32; WIDEST]>()?;

@@ -8,18 +8,21 @@ use state::State;
 use state_words::from_words;
 use words::values_at;
 
-// A decoder's state and the history that its calls are lent, with room for one sample too many.
+// The longest history that a call is lent: one sample too many.
+const LENT_MOST: usize = WHOLE + 1;
+
+// A decoder's state and the history that its calls are lent.
 // The PCM buffer stands beside it: a call through a reference lends one field.
 #[derive(Drop)]
 pub(crate) struct Decoder {
     pub state: State,
-    history: [f32; WHOLE + 1],
+    history: [f32; LENT_MOST],
 }
 
 impl Decoder {
     // As a record has it.
     pub(crate) fn new(b: &[u8; BYTES]) -> Decoder {
-        let mut history = [0.0f32; WHOLE + 1];
+        let mut history = [0.0f32; LENT_MOST];
         values_at(b, HISTORY, &mut history);
         Decoder {
             state: read_state(b),
@@ -34,24 +37,23 @@ impl Decoder {
         b
     }
 
-    // One call, lent the first n samples of the history and the first p of a PCM buffer, which is 1 throughout before it: number,
-    // kind and sample count. Both by a count: lengths that are refused are what the case asks for.
-    pub(crate) fn call(&mut self, n: usize, pcm: &mut [f32], p: usize) -> [u32; 3] {
-        let last = p.min(pcm.len());
-        let lent = &mut pcm[..last];
-        lent.fill(1.0);
+    // One call, lent the first n samples of the history and a PCM buffer, which is 1 throughout before it: number, kind and sample
+    // count. The history by a count: a length that is refused is what the case asks for.
+    pub(crate) fn call(&mut self, n: usize, pcm: &mut [f32]) -> [u32; 3] {
+        pcm.fill(1.0);
         let mut w = to_words(self.state);
         let mut answer = [0u32; 3];
-        let end = n.min(WHOLE + 1);
-        direct::decode_lost(&mut w, &mut self.history[..end], lent, &mut answer);
+        let end = n.min(LENT_MOST);
+        direct::decode_lost(&mut w, &mut self.history[..end], pcm, &mut answer);
         self.state = from_words(&w);
         answer
     }
 }
 
-// The first p samples in one word.
-pub(crate) fn digest(pcm: &[f32], p: usize) -> u32 {
-    pcm[..p.min(pcm.len())].iter().fold(1u32, |h, x| {
+// A PCM buffer in one word.
+pub(crate) fn digest(pcm: &[f32]) -> u32 {
+    pcm.iter().fold(1u32, |h, x| {
+        // The protocol's number; that the draw has it too is chance.
         wrapping_mul_u32(h, 1_664_525).wrapping_add(x.to_word())
     })
 }

@@ -6,7 +6,8 @@ use deemphasis_stereo::deemphasis_stereo;
 use sizes::frame_size;
 use std::io;
 
-// Three words ahead of the floats: lm, channels and downsample. A refused frame keeps its memories.
+// Three words ahead of the floats: lm, channels and downsample. A refused frame keeps its memories. Lists for the longest frame,
+// as the case has them, and PCM for two such channels: there is no heap.
 fn answer_frame(wire: &mut Wire) -> io::Result<()> {
     let n = FRAME_MOST.min(frame_size(wire.read()?));
     let channels: u32 = wire.read()?;

@@ -11,6 +11,7 @@ use settings::Settings;
 use sizes::frame_size;
 use std::io;
 
+// The longest block, as the answer has it, of which a case fills the first n + 120: there is no heap.
 fn answer_block(wire: &mut Wire) -> io::Result<()> {
     let lm: u32 = wire.read()?;
     let span = Span {
@@ -24,6 +25,7 @@ fn answer_block(wire: &mut Wire) -> io::Result<()> {
     let n = FRAME_MOST.min(frame_size(lm));
     let after = noise_block(
         &mut block[..n + OVERLAP],
+        // By `as`: std has no `From` of a word to usize.
         lm as usize,
         span,
         seed,

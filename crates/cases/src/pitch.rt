@@ -1,5 +1,6 @@
 // Op 801: one channel's pitch loss.
 use crate::streams::Wire;
+use custom_mode::standard::BANDS;
 use pitch_loss::{Pitch, pitch_loss};
 use pitch_predictor::fit_predictor;
 use plc_pad::ORDER;
@@ -21,7 +22,7 @@ fn mono(lm: u32) -> Settings {
         lm,
         channels: 1,
         start: 0,
-        end: 21,
+        end: BANDS as u32,
         downsample: 1,
     }
 }

@@ -1,13 +1,25 @@
 // Ops 301 to 307: the downsampling and the lag search.
-ghost use Rattle.std.specs.Prelude.{◌≤◌};
+ghost use Rattle.std.specs.Prelude.{◌+◌, ◌≤◌};
 
 use crate::streams::Wire;
-use history::{CHANNEL, HALF, SAMPLES, SECOND_END, WHOLE};
+use history::{CHANNEL, HALF, LAG_LEAST, LAG_MOST, SAMPLES, SECOND_END, WHOLE};
 use pitch_lag::find_lag;
 use plc_best::find_best_pitch;
 use plc_downsample::pitch_downsample;
 use plc_search::pitch_search;
 use std::io;
+
+// The sizes of the search at half rate, from the limits of the lag: places, and samples that are compared. At quarter rate half of
+// these; `plc_search` keeps its own to itself.
+const PLACES: usize = (LAG_MOST - LAG_LEAST) / 2 + 1;
+
+const COMPARED: usize = HALF - LAG_MOST / 2;
+
+const PLACES4: usize = PLACES / 2;
+
+const COMPARED4: usize = COMPARED / 2;
+
+const REACHED4: usize = COMPARED4 + PLACES4;
 
 // The samples of each used channel, without its overlap. Here and below `two` is what the operation's number has answered.
 fn read_samples(wire: &mut Wire, two: bool) -> io::Result<[f32; WHOLE]> {
@@ -26,19 +38,17 @@ fn answer_downsampled(wire: &mut Wire, two: bool) -> io::Result<()> {
     wire.write(low)
 }
 
-fn answer_best<const PLACES: usize, const REACHED: usize>(
+// The two best of the places of a sweep that compares len samples; y reaches so far beyond the last.
+fn answer_best<const SWEEP: usize, const REACHED: usize>(
     wire: &mut Wire,
     len: usize,
-) -> io::Result<bool>
-    requires { (PLACES ≤ 310) × (REACHED ≤ 1024) }
+) -> io::Result<()>
+    requires { (SWEEP ≤ 310) × (REACHED ≤ 1024) × (len + SWEEP ≤ REACHED) }
 {
-    let xcorr = wire.read::<[f32; PLACES]>()?;
+    let xcorr = wire.read::<[f32; SWEEP]>()?;
     let y = wire.read::<[f32; REACHED]>()?;
-    match find_best_pitch(&xcorr, &y, len) {
-        Some((best, second)) => wire.write_all(&[best, second])?,
-        None => return Ok(false),
-    }
-    Ok(true)
+    let (best, second) = find_best_pitch(&xcorr, &y, len).unwrap();
+    wire.write_all(&[best, second])
 }
 
 fn answer_lag(wire: &mut Wire, two: bool) -> io::Result<()> {
@@ -50,8 +60,8 @@ pub(crate) fn answer(wire: &mut Wire, op: u32) -> io::Result<bool> {
     match op {
         301 => answer_downsampled(wire, false)?,
         302 => answer_downsampled(wire, true)?,
-        303 => return answer_best::<155, 487>(wire, 332),
-        304 => return answer_best::<310, 1024>(wire, 664),
+        303 => answer_best::<PLACES4, REACHED4>(wire, COMPARED4)?,
+        304 => answer_best::<PLACES, HALF>(wire, COMPARED)?,
         305 => wire.answer(|y: [f32; HALF]| pitch_search(&y))?,
         306 => answer_lag(wire, false)?,
         307 => answer_lag(wire, true)?,

@@ -10,7 +10,7 @@ use mdct_mirrored::imdct_mirrored_f32;
 use sizes::frame_size;
 use std::io;
 
-// An entry of a table; past its end there is no answer.
+// An entry of a table. False past its end: there is no answer then, and the program stops as at an op that it does not know.
 fn answer_entry<V: Value>(wire: &mut Wire, table: &[V]) -> io::Result<bool> {
     let at: usize = wire.read()?;
     match table.get(at) {
@@ -48,6 +48,7 @@ pub(crate) fn answer(wire: &mut Wire, op: u32) -> io::Result<bool> {
         601 => return answer_entry(wire, &window()),
         602 => wire.answer_two(|lm, j| low_overlap_window(&window(), frame_size(lm), j))?,
         603 => return answer_entry(wire, &cosines()),
+        // By numbers, as the protocol has these cases, one for each size that `is_frame_size` names; and twice as many samples.
         611 => answer_sum::<120, 240>(wire)?,
         612 => answer_sum::<240, 480>(wire)?,
         613 => answer_sum::<480, 960>(wire)?,

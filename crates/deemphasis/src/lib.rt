@@ -19,7 +19,7 @@ pub fn next_memory(mem: f32, v: f32) -> f32
     c[0] * tmp - c[1] * v
 }
 
-// What the sample v leaves as.
+// What the sample v leaves as. The sum with the memory stands here too: a sample that is not kept has a memory alone.
 #[tactic(auto, unfolding(crate::specs::Deemphasis::pcm_value))]
 pub fn pcm_value(mem: f32, v: f32) -> f32
     ensures { result ≡ pcm_value mem v }

@@ -38,6 +38,7 @@ pub fn frame_sound(
         return Err(Refused);
     }
     let n = frame_size(k.lm);
+    // By `as`: std has no `From` of a word to usize.
     let d = k.downsample as usize;
     let end = history::SAMPLES;
     let first = &history[end - n..end];
