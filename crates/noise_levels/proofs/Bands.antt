@@ -8,12 +8,13 @@ use native.Mathlib.Nat.{mul-le-mul_left, mul-le-mul_right}
 use native.Mathlib.Omega.{arith}
 use lib.Dec.{leb}
 use lib.ListN.{length, take, drop}
-use lib.Seq.{take_at, take-take, take-add, drop_at, length-take-le}
+use lib.Seq.{take_at, take-take}
 use borrow.Author.Tests.{leb-true}
+use Rattle.std.proofs.lemmas.List.{drop-take}
 use lib.Ieee.{Float}
 use Rattle.loops.specs.Fold.{fold_to, fold_range}
 use Rattle.loops.specs.Below.{below, below_at}
-use Rattle.loops.specs.Part.{put, length-put, take_put, drop-put}
+use Rattle.loops.specs.Part.{put, take_put, drop-put}
 use Rattle.float_bits.proofs.Laws.{here_or_on}
 use Rattle.draw.specs.Draw.{draws}
 use Rattle.custom_mode.specs.Mode.{bands, last_edge, edge, edges}
@@ -27,22 +28,18 @@ use Rattle.noise_levels.specs.Bands.{band_of, EveryBand}
 part-put : (a n : ℕ) (y h : List Float) → length y ≡ n → a ≤ length h → take n (drop a (put a n y h)) ≡ y
 part-put a n y h e l = ap (take n) (drop-put a n y h l) ∙ take_at y (drop (a + n) h) n e
 
--- the n from a on, by what is taken of the first a + n
-part_of : (a n : ℕ) (h : List Float) → a ≤ length h → take n (drop a h) ≡ drop a (take (a + n) h)
-part_of a n h l = sym (ap (drop a) (take-add a n h) ∙ drop_at (take a h) (take n (drop a h)) a (length-take-le a h l))
-
-part-ahead : (a n b k : ℕ) (y h : List Float) → a + n ≤ b → b ≤ length h → a ≤ length (put b k y h) → take n (drop a (put b k y h)) ≡ take n (drop a h)
-part-ahead a n b k y h l r z =
-    part_of a n (put b k y h) z
+part-ahead : (a n b k : ℕ) (y h : List Float) → a + n ≤ b → b ≤ length h → take n (drop a (put b k y h)) ≡ take n (drop a h)
+part-ahead a n b k y h l r =
+    sym (drop-take a n (put b k y h))
     ∙ ap (drop a) (sym (take-take (a + n) b (put b k y h) l) ∙ ap (take (a + n)) (take_put b k y h r) ∙ take-take (a + n) b h l)
-    ∙ sym (part_of a n h (omega arith))
+    ∙ drop-take a n h
+
+-- a band ends where the next begins
+pub band_ends : (m i : ℕ) → i < bands → lo m i + width m i ≡ lo m (i + 1)
+band_ends m i h = let v = band_in m i h in omega arith
 
 -- ---- the bands of a shape after n of them, from the start band on
 module _ (m start : ℕ) (a : Shape) (big : m * last_edge ≤ length a.bins) where
-  -- a band ends where the next begins
-  band_ends : (i : ℕ) → i < bands → lo m i + width m i ≡ lo m (i + 1)
-  band_ends i h = let v = band_in m i h in omega arith
-
   -- a band is put behind those before it, and within the bins
   module _ (n : ℕ) (h : start + n < bands) where
     abbrev sofar : Shape
@@ -73,7 +70,6 @@ module _ (m start : ℕ) (a : Shape) (big : m * last_edge ≤ length a.bins) whe
         subst (λ (z : ℕ). lo m (start + j + 1) ≤ lo m z) e (mul-le-mul_left m (edge-up (start + j + 1) (n - j - 1) (omega arith))) in
         let f = fits in
         part-ahead (lo m (start + j)) (width m (start + j)) at wide new sofar.bins (omega arith) (omega arith)
-        (omega (arith, length-put at wide new sofar.bins (length-band_noise wide sofar.seed) f))
 
   drawn_band : (n j : ℕ) → start + n ≤ bands → j < n
       → band_of m (start + j) (fold_to (turn m start) a n).bins ≡ band_noise (width m (start + j)) (draws (lo m (start + j) - lo m start) a.seed)

@@ -14,20 +14,18 @@ use Rattle.buffers.specs.Buffers.{zero32, times}
 use Rattle.float_bits.proofs.Laws.{here_or_on}
 use Rattle.custom_mode.specs.Mode.{short_block, bands, last_edge}
 use Rattle.noise_shape.specs.Shape.{lo, width, noise_shape, edge-up, band_in, length-noise_shape}
+use Rattle.noise_levels.proofs.Bands.{band_ends}
 use Rattle.noise_spectrum.specs.Spectrum.{gain_of_band, gain_turn, bound, cleared, spectrum_over, spectrum, length-gain_turn, bound-in}
 
 -- ---- what stands at j where the n from a on are replaced by y
 module _ (a n : ℕ) (y h : List Float) (sized : length y ≡ n) (in-h : a + n ≤ length h) (j : ℕ) where
-  head : length (take a h) ≡ a
-  head = length-take-le a h (omega arith)
-
   before : j < a → get_or (put a n y h) j nan ≡ get_or h j nan
-  before l = get_or-append (take a h) (y ++ drop n (drop a h)) nan j (omega (arith, head)) ∙ get_or-take a h j nan l
+  before l = get_or-append (take a h) (y ++ drop n (drop a h)) nan j (omega (arith, length-take-le a h (omega arith))) ∙ get_or-take a h j nan l
 
   -- j is i places on from a
   from-a : (i : ℕ) → a + i ≡ j → get_or (put a n y h) j nan ≡ get_or (y ++ drop n (drop a h)) i nan
   from-a i e =
-      let k : j ≡ length (take a h) + i = omega (arith, head) in
+      let k : j ≡ length (take a h) + i = omega (arith, length-take-le a h (omega arith)) in
       ap (λ (z : ℕ). get_or (put a n y h) z nan) k ∙ get_or-append-add (take a h) (y ++ drop n (drop a h)) i nan
 
   inside : (i : ℕ) → a + i ≡ j → i < n → get_or (put a n y h) j nan ≡ get_or y i nan
@@ -51,9 +49,6 @@ module _ (m : ℕ) (energies : List Float) where
     room : lo m i + width m i ≤ length b
     room = let v = band_in m i l in omega arith
 
-    ends : lo m i + width m i ≡ lo m (i + 1)
-    ends = let v = band_in m i l in omega arith
-
     gained-sized : length (gained b i) ≡ width m i
     gained-sized =
         length-map (take (width m i) (drop (lo m i) b)) (times (gain_of_band energies i))
@@ -65,7 +60,7 @@ module _ (m : ℕ) (energies : List Float) where
     turn-own j h k =
         let p = j - lo m i in
         let e : lo m i + p ≡ j = omega arith in
-        let w : p < width m i = omega (arith, ends) in
+        let w : p < width m i = omega (arith, band_ends m i l) in
         inside (lo m i) (width m i) (gained b i) b gained-sized room j p e w
         ∙ get_or-map (times (gain_of_band energies i)) (take (width m i) (drop (lo m i) b)) p nan
         ∙ ap (times (gain_of_band energies i))
@@ -75,7 +70,7 @@ module _ (m : ℕ) (energies : List Float) where
     turn-other : (j : ℕ) → (j < lo m i) ⊎ (lo m (i + 1) ≤ j) → get_or (gain_turn m energies b i) j nan ≡ get_or b j nan
     unfolding gain_turn
     turn-other j (inl h) = before (lo m i) (width m i) (gained b i) b gained-sized room j h
-    turn-other j (inr h) = behind (lo m i) (width m i) (gained b i) b gained-sized room j (omega (arith, ends))
+    turn-other j (inr h) = behind (lo m i) (width m i) (gained b i) b gained-sized room j (omega (arith, band_ends m i l))
 
   -- the turns from the start band on
   module _ (start : ℕ) (b : List Float) (big : m * last_edge ≤ length b) where
