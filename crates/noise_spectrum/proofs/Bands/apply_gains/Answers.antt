@@ -1,6 +1,6 @@
 -- Each band lies within the bins; a band times its gain is one more turn.
 use mathlib.Core.Path.{◌≡◌, ap, ap₂, ◌∙◌, sym}
-use Prim.Native.Nat.{◌+◌, ◌-◌, ◌*◌}
+use Prim.Native.Nat.{◌+◌, ◌-◌, ◌*◌, ◌≤◌}
 use native.Mathlib.Omega.{arith}
 use lib.ListN.{get_or}
 use lib.Ieee.{nan, binary32, add}
@@ -11,6 +11,7 @@ use Rattle.noise_shape.specs.Shape.{lo}
 use Rattle.noise_shape.proofs.Calls.{begins, ends}
 use Rattle.noise_spectrum.specs.Spectrum.{gain_of_band, gain_turn}
 use Rattle.noise_spectrum.proofs.Laws.{gains_more}
+use Rattle.noise_spectrum.proofs.Bands.apply_gains.Goals.{After-band_edge-in-loop-i}
 use Rattle.noise_spectrum.proofs.Bands.apply_gains.Goals as goal
 
 pub loop-i-init : goal.loop-i-init
@@ -19,17 +20,22 @@ loop-i-init c = sym (range_none _ _ _ _ (omega arith))
 pub overflow_mul-a : goal.overflow_mul-a
 overflow_mul-a c = let v = begins c.args.self.m c.loop-i.i _ c.band_edge.ensures (omega arith) in search rules
 
+-- where the band ends
+ends-in : (c : After-band_edge-in-loop-i)
+    → (c.args.self.m * c.band_edge.result ≤ c.args.self.m * c.band_edge-in-loop-i.result) × (c.args.self.m * c.band_edge-in-loop-i.result ≤ c.args.self.m * 100)
+ends-in c = ends c.args.self.m c.loop-i.i _ _ c.band_edge.ensures c.band_edge-in-loop-i.ensures (omega arith)
+
 pub overflow_mul-e : goal.overflow_mul-e
 overflow_mul-e c =
-    let v = ends c.args.self.m c.loop-i.i _ _ c.band_edge.ensures c.band_edge-in-loop-i.ensures (omega arith) in search rules
+    let v = ends-in (goal.at.overflow_mul-e c).After-band_edge-in-loop-i in search rules
 
 pub offset_bounds-bins-a : goal.offset_bounds-bins-a
 offset_bounds-bins-a c =
-    let v = ends c.args.self.m c.loop-i.i _ _ c.band_edge.ensures c.band_edge-in-loop-i.ensures (omega arith) in search rules
+    let v = ends-in (goal.at.offset_bounds-bins-a c).After-band_edge-in-loop-i in search rules
 
 pub slice_bounds-scale-end : goal.slice_bounds-scale-end
 slice_bounds-scale-end c =
-    let v = ends c.args.self.m c.loop-i.i _ _ c.band_edge.ensures c.band_edge-in-loop-i.ensures (omega arith) in search rules
+    let v = ends-in (goal.at.slice_bounds-scale-end c).After-band_edge-in-loop-i in search rules
 
 pub loop-i-preserved : goal.loop-i-preserved
 unfolding gain_of_band
