@@ -9,7 +9,8 @@ ghost use Rattle.band_gain.specs.Gain.{steps, gain_at, gain_of, GainRange};
 
 use std::f64::consts::LN_2;
 
-// The steps of 1/256 from -150 to 0.
+// The steps of 1/256 from -150 to 0. Here and below 256 stands by number: it is a u64 in some places, an f64 in others. A u64 or an
+// i64 becomes an f64 by a cast, since std has no `From` for these.
 const BIAS: u64 = 150 * 256;
 
 // k + 38,400, where k is the greatest whole number not above 256 x. By truncation on either side of 0, as the definition counts:

@@ -9,7 +9,8 @@ ghost use Rattle.noise_energies.specs.Energies.{energy_drop, drops, lower_energi
 
 use custom_mode::standard::{ENERGIES, MAX_BANDS};
 
-// From this loss count on a noise loss reads the background's energies, and nothing drops.
+// From this loss count on a noise loss reads the background's energies, and nothing drops. It is another thing than the count at
+// which a pitch is no longer repeated, `FIRST_NOISE` of state, though the same number.
 const LATE: u32 = 5;
 
 #[tactic(auto, unfolding(crate::specs::Energies::energy_drop))]
