@@ -28,7 +28,8 @@ fn conceal_record(
     ref_decode::decode_lost(record::read_state(rec), history, pcm)
 }
 
-// A record whose loss was accepted is written anew; a refused one stays as it was read.
+// A record whose loss was accepted is written anew; a refused one stays as it was read. Not one with `direct`'s step: a record is
+// bytes, with the history in them, and the head is what C is handed. By `as`: std has no `From` of a word to usize.
 // By length: once `try_from` has made an array of the slice, a proof no longer has what the slice itself becomes.
 fn answer(rec: &mut [u8], head: &mut [u8]) -> Result<usize, Refused>
     requires { (length rec.old ≡ record_length) × (head_most ≤ length head.old) }
@@ -38,11 +39,11 @@ fn answer(rec: &mut [u8], head: &mut [u8]) -> Result<usize, Refused>
     let mut history = [0.0f32; WHOLE];
     let mut pcm = [0.0f32; SAMPLES_MOST];
     let call = conceal_record(rec, &mut history, &mut pcm);
-    let words = report(&call);
+    let [number, kind, samples] = report(&call);
     if let Ok(a) = call {
         write_record(rec, a.state, &history)?;
     }
-    write_head(head, words[0], words[1], &pcm[..words[2] as usize])
+    write_head(head, number, kind, &pcm[..samples as usize])
 }
 
 // One record's step: the record becomes the one after its loss, and `head` starts with number, kind, sample count and

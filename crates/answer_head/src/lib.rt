@@ -6,11 +6,12 @@ ghost use Rattle.std.specs.Prelude.{◌≡◌, length, leb};
 ghost use Rattle.reply.specs.Reply.{replied, reply_if, value_or};
 ghost use Rattle.answer_head.specs.Head.{report_length, headed, head_fits, head_written, answer_tail};
 
+use custom_mode::standard::FRAME_MOST;
 use put_words::put_values_at;
 use reply::Refused;
 
-// The samples of the longest answer: two channels of 960.
-pub const SAMPLES_MOST: usize = 1_920;
+// The samples of the longest answer: two channels of the longest frame.
+pub const SAMPLES_MOST: usize = 2 * FRAME_MOST;
 
 // The words, and the bytes, of number, kind and sample count.
 const REPORT_WORDS: usize = 3;
@@ -24,7 +25,7 @@ const CUT_SHORT: u32 = 11;
 
 // Number, kind and sample count, and then the samples; how many bytes they are. A `head` of less than 7,692 bytes and
 // more than 1,920 samples are refused, and `head` stays. Number and kind are the record's own words, of 32 bits; buffer and
-// count are what C is handed.
+// count are what C is handed. The count by `as`: no more than 1,920, so that a `try_from` could not refuse.
 #[tactic(auto, using(std::proofs::lemmas::Bool::Decides::nat_tests), unfolding(reply::specs::Reply::reply_if, crate::specs::Head::head_fits))]
 pub fn write_head(head: &mut [u8], number: u32, kind: u32, pcm: &[f32]) -> Result<usize, Refused>
     ensures { replied result (headed (value_or 0 result) head.new)

@@ -11,7 +11,7 @@ use state_words::{WORDS, from_words};
 
 // Conceals one lost frame: `state` is the words of a state in document 01's order, `history` 4,336 samples, and `answer`
 // becomes number, kind and sample count. The number is returned too; with any but 0 state, history and PCM stay. Numbers and
-// words, since this is what C is handed.
+// words, since this is what C is handed. Not one with `answer`'s step: of a record's bytes the words are read and written otherwise.
 pub fn decode_lost(
     state: &mut [u32; WORDS],
     history: &mut [f32],

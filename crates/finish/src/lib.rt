@@ -6,7 +6,9 @@ ghost use Rattle.std.specs.Prelude.{◌≡◌, length, Ok};
 ghost use Rattle.state.specs.Refusal.{refusal};
 ghost use Rattle.finish.specs.Finish.{finish, outcome_of, in_buffer, finished};
 
+use custom_mode::standard::ENERGIES;
 use frame_sound::frame_sound;
+use plc_pad::ORDER;
 use settings::Refusal;
 use sizes::needed_samples;
 use state::checks::first_refusal;
@@ -18,8 +20,8 @@ pub struct Made {
     pub kind: Kind,
     pub seed: u32,
     pub lag: u32,
-    pub coarse: [f32; 50],
-    pub predictor: [f32; 48],
+    pub coarse: [f32; ENERGIES],
+    pub predictor: [f32; 2 * ORDER],
 }
 
 // From what a path made and the history that it left.

@@ -3,7 +3,7 @@ use mathlib.Core.Path.{◌≡◌, refl, sym, ap, ◌∙◌, subst}
 use mathlib.Core.Logic.{inl, inr}
 use Prim.Native.Nat.{ℕ, zero, suc, ◌+◌, ◌-◌, ◌*◌, ◌/◌, ◌%◌, ◌^◌, ◌≤◌, ◌<◌, compare}
 use native.Mathlib.Nat.{add_assoc, mul_assoc, mul-one, zero-mul, mul-le-mul, mul-le-mul_right, le_of_mul-le-mul_right, lt_of_mul-lt-mul_right}
-use native.Mathlib.Nat.{le_trans, le_of_suc-le-suc, lt_of_lt_of_le, lt_of_le_of_lt, eq-or-lt_of_le, le-div_iff_mul-le, sub-add-eq-max}
+use native.Mathlib.Nat.{le_trans, lt_of_lt_of_le, lt_of_le_of_lt, eq-or-lt_of_le, le-div_iff_mul-le, sub-add-eq-max}
 use native.Mathlib.Omega.{arith}
 use mathlib.Core.Bool.{Bool, true, false, not, ◌&&◌, cond}
 use lib.Dec.{T, leb, ltb, eqb, leb→le, nleb→lt, le→leb, lit≤, lit<}
@@ -17,7 +17,7 @@ use lib.Ieee.Nearest.{closest, closest_mono, nearest-ge}
 use lib.Ieee.Fits.{nearest-le, and_l, and_r, down_pos}
 use lib.Ieee.Exact.{HasValue}
 use lib.Ieee.Scale.{round_same}
-use Rattle.float_bits.proofs.Laws.{here_or_on, pow_lt_back}
+use Rattle.float_bits.proofs.Laws.{here_or_on, pow_lt_back, pow_le_back}
 use Rattle.float_narrow.specs.Narrow.{narrow}
 use Rattle.float_narrow.specs.Clause.{exact, overflows, last_digit, delivered, round_ties_to_even, clause}
 use Rattle.float_narrow.proofs.Laws.{regroup-two, size-at, round-at, units-inf, units-fin}
@@ -231,11 +231,8 @@ exact-val s zero e h = (refl, nothing)
         ∙ sym (ap (λ (z : ℕ). z * (2 ^ 1074 / down e) * down e) (zero-mul (up e))
         ∙ ap (λ (z : ℕ). z * down e) (zero-mul (2 ^ 1074 / down e)) ∙ zero-mul (down e))
 exact-val s (suc m) (pos k) h = (refl, exact-down (suc m) (pos k) refl)
-exact-val s (suc m) (negsuc k) h = (refl, exact-down (suc m) (negsuc k) (whole k (least k (leb→le (2 ^ suc k) (2 ^ 1074) least-digit))))
+exact-val s (suc m) (negsuc k) h = (refl, exact-down (suc m) (negsuc k) (whole k (pow_le_back (suc k) 1074 (leb→le (2 ^ suc k) (2 ^ 1074) least-digit))))
   where
-    least : (k : ℕ) → 2 ^ suc k ≤ 2 ^ 1074 → suc k ≤ 1074
-    least k h = le_of_suc-le-suc (pow_lt_back (suc k) 1075 (lt_of_le_of_lt h (lit< tt)))
-
     odd-few : Bool
     odd-few = eqb (suc m % 2) 1 && ltb (suc m) (2 ^ 53)
 

@@ -2,7 +2,7 @@
 use mathlib.Core.Path.{◌≡◌, refl, sym, ap, ◌∙◌, subst}
 use mathlib.Core.Logic.{inl, inr}
 use Prim.Native.Nat.{ℕ, zero, suc, ◌+◌, ◌-◌, ◌*◌, ◌/◌, ◌%◌, ◌^◌, ◌≤◌, ◌<◌, compare, zero-le}
-use native.Mathlib.Nat.{zero-add, one-mul, le_of_lt, mul-lt-mul_of_pos_right, le_trans}
+use native.Mathlib.Nat.{zero-add, one-mul, le_of_lt, not-le_of_lt, mul-lt-mul_of_pos_right, le_trans}
 use native.Mathlib.Nat.{lt_of_lt_of_le, lt_of_le_of_lt, eq-or-lt_of_le}
 use native.Mathlib.Nat.{mul-le-mul_right, mul-le-mul, div-eq_of_lt, mod-eq_of_lt}
 use native.Mathlib.Omega.{arith}
@@ -198,15 +198,12 @@ past_threshold (suc x) t l h = elim (eq-or-lt_of_le (first x t l h)) [
     full : (x t : ℕ) → 1149 ≡ x → 0x47ef_ffff_f000_0000 ≤ suc x * 2 ^ 52 + t → (2 ^ 25 - 1) * 2 ^ 28 ≤ 2 ^ 52 + t
     full x t a h = omega arith
 
-not-below : (r k : ℕ) → 2 ^ 23 ≤ r → r < 2 ^ 23 → k ≡ 0
-not-below r k h l = let z : ⊥ = omega arith in absurd z
-
 pub mag-fin : (e t : ℕ) → 897 ≤ e → t < 2 ^ 52 → e * 2 ^ 52 + t < 0x47ef_ffff_f000_0000 → Magnitude e t ((e - 897) * 2 ^ 23 + Top t)
 mag-fin zero t a l m = absurd (no_897 a)
 mag-fin (suc x) t a l m = record {
   small = le_of_lt (fin-below (suc x) t l m);
   bits = λ s. ap (to_bits binary32) (ties-to-even-is s ((2 ^ 52 + t) * 2 ^ x) ∙ normal-round s x t a l)
-      ∙ finite-bits s (Top t) (suc x - 897) (top-hi t l) (not-below (Top t) (suc x - 897) (top-lo t))
+      ∙ finite-bits s (Top t) (suc x - 897) (top-hi t l) (λ g. absurd (not-le_of_lt g (top-lo t)))
       (under (Top t) (suc x - 897) (top-lo t) (top-hi t l) (fin-below (suc x) t l m));
 }
 

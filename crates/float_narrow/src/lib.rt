@@ -59,14 +59,10 @@ fn nearest_number(e: u64, t: u64) -> u64
 fn sign_bit(b: u64) -> u64
     ensures { result ≡ b / 2 ^ 63 * 2 ^ 31 }
 {
-    if b < 0x8000_0000_0000_0000 {
-        0
-    } else {
-        0x8000_0000
-    }
+    (b >> 63) << 31
 }
 
-// The bits of the f32 nearest to the f64 whose bits are b.
+// The bits of the f32 nearest to the f64 whose bits are b. By `as`: they fit, so that a `try_from` could not refuse.
 fn narrow_bits(b: u64) -> u32
     requires { T (not (is_nan (of_bits binary64 b))) }
     ensures { result ≡ to_bits binary32 (clause (of_bits binary64 b)) }

@@ -15,8 +15,8 @@ use lib.Ieee.Exact.{HasValue}
 use lib.Ieee.Positive.{positive, value_pos, first_pos}
 use Rattle.float_root.specs.Root.{root_to, sqrt_of, NearRoot}
 use Rattle.float_root.specs.Steps.{ScaledTo, RootBits}
-use Rattle.float_bits.proofs.Laws.{here_or_on, pow_lt_back}
-use Rattle.float_root.proofs.Roots.{pow_le_back, some_left, turn, start, first_small, Shape, shape, root-up, root-down, bits-value, near-root}
+use Rattle.float_bits.proofs.Laws.{here_or_on, pow_lt_back, pow_le_back}
+use Rattle.float_root.proofs.Roots.{some_left, turn, start, first_small, Shape, shape, root-up, root-down, bits-value, near-root}
 use Rattle.float_root.proofs.Sqrt.{root-to, root-value}
 
 -- ---- a finite f32 above zero is a whole number of units

@@ -10,7 +10,7 @@ use native.Mathlib.Omega.{arith}
 use mathlib.Core.Bool.{false, ◌&&◌}
 use lib.IntN.{ℤ, pos, negsuc}
 use lib.Dec.{T, leb, ltb, eqb, leb→le, ltb→lt, lit<, lit≤}
-use lib.Pow.{pow-add, pow_pos, pow_mono, pow-lt, shl_lt}
+use lib.Pow.{pow-add, pow_pos, pow_mono, shl_lt}
 use lib.Ieee.{Float, nan, inf, fin, binary32, up, down, odd, units, fits, of_bits}
 use lib.Ieee.Fits.{and_l, and_r, down_pos, odd-fits, cond-fits, inf-fits}
 use lib.Ieee.Bits.{of_bits-fits, of_bits-to_bits}
@@ -18,7 +18,7 @@ use lib.Ieee.Exact.{HasValue, units_val}
 use Rattle.float_root.specs.Root.{NearRoot}
 use Rattle.float_bits.specs.Steps.{significand}
 use Rattle.float_root.specs.Steps.{ScaledTo, RootBits}
-use Rattle.float_bits.proofs.Laws.{here_or_on, finite-bits}
+use Rattle.float_bits.proofs.Laws.{here_or_on, pow_le_back, finite-bits}
 
 -- ---- one turn of the loop
 quarter : (m p : ℕ) → m * 4 * (p * p) ≡ m * (2 * p * (2 * p))
@@ -129,9 +129,6 @@ root-down n m k s w lo hi g =
     record { m = m; k = k; q = s; scaled = w; low = a; high = omega arith; under = omega arith; over = omega arith; is = refl }
 
 -- ---- the values of a format as whole numbers of units
-pub pow_le_back : (a l : ℕ) → 2 ^ a ≤ 2 ^ l → a ≤ l
-pow_le_back a l h = le_of_suc-le-suc (lt_of_not-le (λ (g : suc l ≤ a). not-le_of_lt (pow-lt g) h))
-
 abbrev pub Shape : ℕ → Type 0
 Shape b = (n : ℕ) × (x : ℕ) × (n < 2 ^ 24) × (b ≡ n * 2 ^ x)
 
@@ -236,12 +233,9 @@ units-fits q k h l =
 in-range : (q k : ℕ) → q ≤ 2 ^ 24 → k ≤ 201 → q * 2 ^ k < 2 ^ 277
 in-range q k h l = lt_of_le_of_lt (mul-le-mul h (pow_mono l)) (lit< tt)
 
-none : (q k : ℕ) → 2 ^ 23 ≤ q → q < 2 ^ 23 → k ≡ 0
-none q k h l = absurd (not-le_of_lt l h)
-
 pub of_bits-units : (q k : ℕ) → 2 ^ 23 ≤ q → q ≤ 2 ^ 24 → k ≤ 201 → of_bits binary32 (k * 2 ^ 23 + q) ≡ units binary32 false q k
 of_bits-units q k lo hi l =
-    ap (of_bits binary32) (sym (finite-bits false q k hi (none q k lo) (in-range q k hi l) ∙ zero-add (k * 2 ^ 23 + q)))
+    ap (of_bits binary32) (sym (finite-bits false q k hi (λ l. absurd (not-le_of_lt l lo)) (in-range q k hi l) ∙ zero-add (k * 2 ^ 23 + q)))
     ∙ of_bits-to_bits binary32 (units binary32 false q k) (units-fits q k hi (in-range q k hi l))
 
 -- the value of a root's bits

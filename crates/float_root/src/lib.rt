@@ -80,7 +80,7 @@ fn root_bits(b: u64) -> u64
     k * 0x80_0000 + s
 }
 
-// The f32 nearest to the square root of x.
+// The f32 nearest to the square root of x. The root's bits by `as`: they fit, so that a `try_from` could not refuse.
 pub fn sqrt_f32(x: f32) -> f32
     ensures { result ≡ sqrt_of x }
 {
@@ -90,6 +90,6 @@ pub fn sqrt_f32(x: f32) -> f32
     match x.to_bits() {
         0 | 0x8000_0000 | 0x7f80_0000 => x,
         b if b > 0x8000_0000 => f32::NAN,
-        b => f32::from_bits(root_bits(b as u64) as u32),
+        b => f32::from_bits(root_bits(u64::from(b)) as u32),
     }
 }

@@ -2,18 +2,19 @@
 use mathlib.Core.Path.{◌≡◌, refl, sym, ap, ◌∙◌, subst}
 use mathlib.Core.Bool.{Bool, true, false, not, ◌&&◌, cond}
 use Prim.Native.Nat.{ℕ, zero, suc, ◌+◌, ◌-◌, ◌*◌, ◌/◌, ◌%◌, ◌^◌, ◌≤◌, ◌<◌}
-use native.Mathlib.Nat.{le_trans, le_of_eq, le_of_suc-le-suc, lt_of_lt_of_le, lt_of_not-le, lt_irrefl, zero-mul, one-mul}
+use native.Mathlib.Nat.{le_trans, le_of_eq, lt_of_lt_of_le, zero-mul, one-mul}
 use native.Mathlib.Nat.{mul-one, mul_assoc, mul_comm, mul_right_comm, mul-pos, mul-le-mul_right, mul-lt-mul_of_pos_right}
 use native.Mathlib.Nat.{lt_of_mul-lt-mul_right, sub-add_cancel}
 use lib.IntN.{ℤ, pos, negsuc}
 use lib.Dec.{T, leb, ltb, eqb, ltb→lt, leb→le, eqb→eq}
-use lib.Pow.{pow-add, pow_pos, pow-lt}
+use lib.Pow.{pow-add, pow_pos}
 use lib.Ieee.{Float, nan, inf, fin, Format, prec, emax, low, up, down, size, odd, units, round, neg, fits, to_bits, of_bits, top, hid}
 use lib.Ieee.Fits.{round_is, round-fits, and_l, and_r, up_pos, down_pos}
 use lib.Ieee.Exact.{HasValue, round_exact}
 use lib.Ieee.Scale.{round_same}
 use lib.Ieee.Nearest.{div_same}
 use lib.Ieee.Bits.{of_bits-to_bits}
+use Rattle.float_bits.proofs.Laws.{pow_le_back}
 
 -- ---- the sign goes through
 
@@ -84,9 +85,6 @@ same-value f x y s a c C X Y v w =
     sym (of_bits-to_bits f x X) ∙ ap (of_bits f) (bits_of f x s a c C v ∙ sym (bits_of f y s a c C w)) ∙ of_bits-to_bits f y Y
 
 -- ---- a value that fits is not changed
-
-pow_le_back : (a l : ℕ) → 2 ^ a ≤ 2 ^ l → a ≤ l
-pow_le_back a l h = le_of_suc-le-suc (lt_of_not-le (λ (g : suc l ≤ a). lt_irrefl (2 ^ l) (lt_of_lt_of_le (pow-lt g) h)))
 
 -- how many places a value that fits lies above the format's smallest value
 places : (e : ℤ) (l : ℕ) → down e ≤ 2 ^ l → (j : ℕ) × (up e * 2 ^ l ≡ 2 ^ j * down e)

@@ -4,10 +4,8 @@ use mathlib.Core.Bool.{true}
 use mathlib.Core.List.{List, [], ◌∷◌}
 use Prim.Native.Nat.{ℕ, zero, suc, ◌+◌, ◌≤◌, ◌<◌, ◌*◌, ◌/◌, ◌%◌}
 use native.Mathlib.Omega.{arith}
-use lib.ListN.{length, get_or, drop}
+use lib.ListN.{length, get_or}
 use lib.Ieee.{Float, nan, binary64, add, mul}
-use Rattle.std.specs.Simd.{first_chunks}
-use Rattle.std.proofs.lemmas.List.{get_or-take, get_or-drop}
 use Rattle.loops.specs.Front.{tab, tab-same, length-tab}
 use Rattle.cosine_circle.specs.Circle.{is_frame_size}
 use Rattle.cosine_circle.proofs.Sizes.{Size, sized, few}
@@ -54,14 +52,6 @@ terms : (pairs inputs two : List Float) (i : ℕ) (at : List ℕ) (acc : List Fl
 terms pairs inputs two i at acc t =
     tab-same _ _ 8
     (λ e h. ap (λ y. add binary64 (get_or acc e nan) (mul binary64 y (get_or pairs (get_or at (e / 2) 0 + e % 2) nan))) (t (e % 2) (omega arith)))
-
--- input j of the four numbered h
-pub of-four : (k h j : ℕ) (xs : List Float) → h < k → j < 4 → get_or (get_or (first_chunks 4 k xs) h []) j nan ≡ get_or xs (4 * h + j) nan
-of-four zero h j xs l m = let z : ⊥ = omega arith in absurd z
-of-four (suc k) zero j xs l m = let e : j ≡ 4 * 0 + j = omega arith in get_or-take 4 xs j nan m ∙ ap (λ z. get_or xs z nan) e
-of-four (suc k) (suc h) j xs l m =
-    let e : 4 + (4 * h + j) ≡ 4 * suc h + j = omega arith in
-    of-four k h j (drop 4 xs) (omega arith) m ∙ get_or-drop 4 xs (4 * h + j) nan ∙ ap (λ z. get_or xs z nan) e
 
 pub two-of : (inputs : List Float) (h s : ℕ) (a b : Float) → a ≡ get_or inputs (4 * h + s) nan → b ≡ get_or inputs (4 * h + (s + 1)) nan
     → Two inputs (4 * h + s) (a ∷ b ∷ [])

@@ -8,6 +8,7 @@ ghost use Rattle.state_words.specs.Words.{head_words, float_words, state_words};
 use float_bits::words::Word;
 use state::State;
 use state_words::{COARSE, MEMORIES, WORDS};
+
 // The words ahead of the energies.
 #[tactic(auto, unfolding(state_words::specs::Words::head_words))]
 fn head_words(s: State) -> [u32; COARSE]
@@ -29,7 +30,7 @@ fn head_words(s: State) -> [u32; COARSE]
 }
 
 // By number, in place: of a zip with `iter_mut` the check knows the items alone, not what w becomes.
-// Arrays made by `from_fn` and copied in take 200 ns for a state read and written, where this takes 170.
+// Arrays made by `from_fn` and copied in take 200 ns for a state read and written, where this takes 170. `put_words` does it in bytes.
 fn put_floats(w: &mut [u32], xs: &[f32])
     requires { length w.old ≡ length xs.now }
     ensures { w.new ≡ float_words xs.now }

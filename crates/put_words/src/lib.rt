@@ -10,7 +10,8 @@ ghost use Rattle.words.specs.Bytes.{holds, values_bytes};
 use float_bits::words::Word;
 use reply::Refused;
 
-// The bytes of the values' words. By place: of a zip with `iter_mut` the check knows the items alone, not what b becomes.
+// The bytes of the values' words, in place. By place: of a zip with `iter_mut` the check knows the items alone, not what b becomes.
+// `put_state_words` fills words and no bytes, so that its loop is another.
 fn put_values<W: Word>(b: &mut [u8], xs: &[W])
     requires { length b.old ≡ 4 * length xs.now }
     ensures { b.new ≡ values_bytes W.word_of xs.now }

@@ -15,7 +15,8 @@ pub const BYTES: usize = 4 * (WORDS + history::WHOLE);
 // The number of the history's first word: it follows the state's.
 pub const HISTORY: usize = WORDS;
 
-// The state of a record.
+// The state of a record; of other lengths too, since past b's end a word is 0. Its words as an array at once: `values_at` would
+// fill one made before.
 pub fn read_state(b: &[u8]) -> State
     ensures { result ≡ state_of b.now }
 {

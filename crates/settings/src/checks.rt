@@ -5,6 +5,8 @@ ghost use Rattle.settings.specs.Settings.{check_end, check_downsample, check_set
 
 use crate::{Refusal, Settings};
 
+// The mode's own number, as wide as the settings' words, to which it is held; so is that of the bands. By `as`: std has no `From`
+// of usize to u32, and a constant calls no `try_from`.
 pub const LM_MOST: u32 = custom_mode::standard::LM_MOST as u32;
 
 const CHANNELS_MOST: u32 = 2;
@@ -15,7 +17,7 @@ const BANDS: u32 = custom_mode::standard::BANDS as u32;
 pub fn unless(passes: bool, e: Refusal) -> Result<(), Refusal>
     ensures { number_in result ≡ cond passes 0 (number_of e) }
 {
-    if passes { Ok(()) } else { Err(e) }
+    passes.then_some(()).ok_or(e)
 }
 
 // Whether x lies from lo to hi: one library call, under the name that the definitions give it. What it promised stays, and

@@ -24,7 +24,8 @@ pub fn frame_size(lm: u32) -> usize
 }
 
 // The samples that an accepted call writes; 0 for settings that are refused. A number for any settings, as its definition has it:
-// who asks has had the refusal from the checks, and would take the number out of an `Option` that cannot be empty.
+// who asks has had the refusal from the checks, and would take the number out of an `Option` that cannot be empty. By `as`: std has
+// no `From` of a word to usize.
 pub fn needed_samples(k: Settings) -> usize
     ensures { result ≡ needed k }
 {

@@ -15,7 +15,8 @@ const COUNT_FULL: u32 = u32::MAX;
 // The last loss count that goes by pitch.
 pub const PITCH_LAST: u32 = 4;
 
-// The shortest lag and the longest.
+// The shortest lag and the longest: the history's own numbers, as wide as a state's words. By `as`: std has no `From` of usize to
+// u32, and a constant calls no `try_from`.
 pub const LAG_LEAST: u32 = history::LAG_LEAST as u32;
 
 pub const LAG_MOST: u32 = history::LAG_MOST as u32;

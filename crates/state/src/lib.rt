@@ -9,6 +9,8 @@ ghost use Rattle.std.specs.Prelude.{◌≡◌, ◌≤◌, ◌<◌, [], ◌∷◌
 ghost use Rattle.state.specs.Answer.{kind_of, report_of, answer_words};
 ghost use Rattle.state.specs.State.{core, noisy};
 
+use custom_mode::standard::ENERGIES;
+use plc_pad::ORDER;
 use post_filter::Filter;
 use settings::{Refusal, Settings};
 
@@ -21,10 +23,10 @@ pub struct State {
     pub seed: u32,
     pub lag: u32,
     pub filter: Filter,
-    pub coarse: [f32; 50],
-    pub background: [f32; 50],
+    pub coarse: [f32; ENERGIES],
+    pub background: [f32; ENERGIES],
     pub memories: [f32; 2],
-    pub predictor: [f32; 48],
+    pub predictor: [f32; 2 * ORDER],
 }
 
 // The path of an accepted loss.
@@ -77,7 +79,8 @@ pub fn report(call: &Result<Answer, Refusal>) -> [u32; 3]
     }
 }
 
-// The first loss count that goes by noise at any start band.
+// The first loss count that goes by noise at any start band. It says which path; from which count a noise loss reads the background
+// is a rule of its own, with the same number, in `noise_energies`.
 const FIRST_NOISE: u32 = checks::PITCH_LAST + 1;
 
 // Whether an accepted loss goes by noise.

@@ -6,23 +6,27 @@
 ghost use Rattle.std.specs.Prelude.{◌≡◌, ◌+◌, ◌≤◌};
 ghost use Rattle.state_words.specs.Words.{state_length, floats_by, settings_by, filter_by, word_in, state_in};
 
+use custom_mode::standard::ENERGIES;
 use float_bits::words::Word;
+use plc_pad::ORDER;
 use post_filter::Filter;
 use settings::Settings;
 use state::State;
 use std::array;
 
-// The words of a state.
-pub const WORDS: usize = 161;
-
-// Where each part begins: the number of its first word. The history follows a state in a record.
+// Where each part begins: the number of its first word. Ahead of the energies five words of settings, loss count, seed, lag, and
+// three of the filter.
 pub const COARSE: usize = 11;
 
-pub const BACKGROUND: usize = 61;
+pub const BACKGROUND: usize = COARSE + ENERGIES;
 
-pub const MEMORIES: usize = 111;
+pub const MEMORIES: usize = BACKGROUND + ENERGIES;
 
-pub const PREDICTOR: usize = 113;
+// One memory for each channel.
+pub const PREDICTOR: usize = MEMORIES + 2;
+
+// The words of a state. The history follows them in a record.
+pub const WORDS: usize = PREDICTOR + 2 * ORDER;
 
 #[tactic(auto, unfolding(crate::specs::Words::settings_by))]
 fn settings_in(w: &[u32; WORDS]) -> Settings
@@ -48,7 +52,7 @@ fn filter_in(w: &[u32; WORDS]) -> Filter
     }
 }
 
-// The floats of the words from the one numbered i on.
+// The floats of the words from the one numbered i on: an array at once, where the record's bytes, `words`, are read into what is lent.
 fn floats_in<const N: usize>(w: &[u32; WORDS], i: usize) -> [f32; N]
     requires { i + N ≤ state_length }
     ensures { result ≡ floats_by (word_in w.now) i N }

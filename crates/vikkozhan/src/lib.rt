@@ -1,5 +1,5 @@
 // The functions that programs in other languages link: `include/vikkozhan.h` declares them, so numbers stand for kinds, a count
-// beside a buffer, and 161 words for a state.
+// beside a buffer, and 161 words, by the header's own number, for a state.
 
 #![tactic(auto)]
 

@@ -2,29 +2,21 @@
 use mathlib.Core.Path.{◌≡◌, refl, ap, ap₂, ◌∙◌, sym}
 use mathlib.Core.Bool.{Bool, true, false}
 use mathlib.Core.List.{List, [], ◌∷◌, ◌++◌}
-use Prim.Native.Nat.{ℕ, zero, suc, min, ◌+◌, ◌*◌, ◌/◌, ◌%◌, ◌≤◌, ◌<◌}
+use Prim.Native.Nat.{ℕ, suc, min, ◌+◌, ◌*◌, ◌/◌, ◌%◌, ◌≤◌, ◌<◌}
 use native.Mathlib.Omega.{arith}
 use native.Mathlib.Nat.{div-one}
 use Rattle.std.proofs.Common.{append_assoc}
-use lib.ListN.{length, get_or, drop}
+use lib.ListN.{length, get_or}
 use Rattle.std.specs.Int.{w32, to_le_bytes}
 use Rattle.std.specs.Simd.{first_chunks}
-use Rattle.std.proofs.lemmas.List.{get_or-take, get_or-drop}
 use lib.Dec.{leb}
 use borrow.Author.Tests.{le-leb, lt-leb, leb-true, leb-false}
+use Rattle.loops.specs.Chunks.{chunk_at}
 use Rattle.loops.specs.Part.{put, put_next}
 use Rattle.reply.specs.Reply.{reply, reply_if, reply-lent, reply-taken}
 use Rattle.loops.specs.Pick.{pick_true, pick-false}
 use Rattle.loops.specs.Front.{tab, length-tab, front, tab-none, tab-all}
 use Rattle.words.specs.Bytes.{holds, word_at, byte_of, bytes_by}
-
--- byte j of the chunk numbered i
-pub chunk_byte : (k i j : ℕ) (b : List ℕ) → i < k → j < 4 → get_or (get_or (first_chunks 4 k b) i []) j 0 ≡ get_or b (4 * i + j) 0
-chunk_byte zero i j b h l = let z : ⊥ = omega arith in absurd z
-chunk_byte (suc k) zero j b h l = let e : j ≡ 4 * 0 + j = omega arith in get_or-take 4 b j 0 l ∙ ap (λ z. get_or b z 0) e
-chunk_byte (suc k) (suc i) j b h l =
-    let e : 4 + (4 * i + j) ≡ 4 * suc i + j = omega arith in
-    chunk_byte k i j (drop 4 b) (omega arith) l ∙ get_or-drop 4 b (4 * i + j) 0 ∙ ap (λ z. get_or b z 0) e
 
 module _ (b : List ℕ) (i : ℕ) where
   pub holds-true : (n : ℕ) → 4 * (i + n) ≤ length b → holds b i n ≡ true
@@ -56,7 +48,7 @@ module _ (b : List ℕ) (i : ℕ) where
       → get_or w 0 0 + get_or w 1 0 * 256 + get_or w 2 0 * 65536 + get_or w 3 0 * 16777216 ≡ word_at b i
   word_of_bytes n w h e q =
       let d : (j : ℕ) → j < 4 → get_or w j 0 ≡ get_or b (4 * i + j) 0 =
-      λ j l. ap (λ z. get_or z j 0) q ∙ chunk_byte n i j b h l in
+      λ j l. ap (λ z. get_or z j 0) q ∙ chunk_at 4 n i j 0 b h l in
       let z : 4 * i + 0 ≡ 4 * i = omega arith in
       let d0 : get_or w 0 0 ≡ get_or b (4 * i) 0 = d 0 (omega arith) ∙ ap (λ k. get_or b k 0) z in
       omega (arith, d0, d 1 (omega arith), d 2 (omega arith), d 3 (omega arith), word_in (omega arith))

@@ -19,7 +19,8 @@ pub fn word_at(b: &[u8], i: usize) -> u32
 }
 
 // The values of the words from the one numbered i on. The numbers stop at the greatest, at which no list has a word.
-// By number: past b's end a word is 0, and a zip with b's words would leave the value as it was.
+// By number: past b's end a word is 0, and a zip with b's words would leave the value as it was. Into what is lent, as long as it
+// is: a history of 17 kB; `state_words` makes short arrays out of words in memory instead.
 pub fn values_at<W: Word>(b: &[u8], i: usize, out: &mut [W])
     ensures { out.new ≡ values_at W.of_word b.now i (length out.old) }
 {

@@ -2,12 +2,14 @@ use mathlib.Core.Logic.{inl, inr}
 use Rattle.std.proofs.Common.{rules}
 use mathlib.Core.Path.{◌≡◌, sym, subst, ◌∙◌}
 use mathlib.Core.Bool.{true, not}
-use Prim.Native.Nat.{ℕ, ◌≤◌, ◌<◌, ◌^◌}
+use Prim.Native.Nat.{ℕ, ◌*◌, ◌/◌, ◌%◌, ◌≤◌, ◌<◌, ◌^◌}
 use native.Mathlib.Omega.{arith}
 use lib.Dec.{T}
 use lib.Ieee.{Float, nan, binary32, fits, is_nan, of_bits, to_bits}
 use lib.Ieee.Bits.{of_bits-to_bits, to_bits-lt}
+use Rattle.float_bits.specs.Steps.{significand}
 use Rattle.float_root.specs.Root.{sqrt_of}
+use Rattle.float_root.specs.Steps.{RootBits}
 use Rattle.float_root.proofs.Classify.{self-nan, self-zero, self-minus, self-inf, real-bits, neg_bits, root_is, root-real}
 use Rattle.float_bits.proofs.Word.{nan-bits, nan-is, real}
 use Rattle.float_root.proofs.sqrt_f32.Goals as goal
@@ -35,15 +37,12 @@ module _ (x : Float) (f : T (fits binary32 x)) where
 pub returns-then-is_nan : goal.returns-then-is_nan
 returns-then-is_nan c = self-nan c.args.x (nan-is c.args.x c.if-is_nan.ensures.value)
 
-bounded : (c : goal.Else-b-gt2147483648) → bits c.args.x < 0x7f80_0000
-bounded c =
+pub root_bits-requires-clause-b_bound : goal.root_bits-requires-clause-b_bound
+root_bits-requires-clause-b_bound c =
     let m : bits c.args.x ≡ 2 ^ 31 → ⊥ = search rules in
     let i : bits c.args.x ≡ 0x7f80_0000 → ⊥ = search rules in
     let l : bits c.args.x < 2 ^ 31 = omega arith in
-    omega (arith, at-most-inf c.args.x (held _ (sym c.well_formed.0.1)) (real c.args.x c.if-is_nan.ensures.value) l)
-
-pub root_bits-requires-clause-b_bound : goal.root_bits-requires-clause-b_bound
-root_bits-requires-clause-b_bound c = bounded c
+    omega (arith, c.from.ensures, at-most-inf c.args.x (held _ (sym c.well_formed.0.1)) (real c.args.x c.if-is_nan.ensures.value) l)
 
 pub float_from_bits-result : goal.float_from_bits-result
 float_from_bits-result c = root-real _ c.root_bits.result c.root_bits.ensures
@@ -71,4 +70,4 @@ returns-in_default-2 c =
     let l : bits c.args.x < 2 ^ 31 = omega arith in
     let most = at-most-inf c.args.x (held _ (sym c.well_formed.0.1)) (real c.args.x c.if-is_nan.ensures.value) l in
     subst (λ (v : Float). of_bits binary32 c.root_bits.result ≡ sqrt_of v) (same c.args.x (held _ (sym c.well_formed.0.1)))
-    (root_is (bits c.args.x) c.root_bits.result (omega arith) (omega (arith, most)) c.root_bits.ensures)
+    (root_is (bits c.args.x) c.root_bits.result (omega arith) (omega (arith, most)) (subst (λ (b : ℕ). RootBits (significand binary32 (b / 2 ^ 23) (b % 2 ^ 23) * 2 ^ 149) c.root_bits.result) c.from.ensures c.root_bits.ensures))

@@ -5,12 +5,13 @@ use native.Mathlib.Omega.{arith}
 use mathlib.Core.List.{[], ◌∷◌}
 use lib.ListN.{length, get_or}
 use lib.Ieee.{nan}
+use Rattle.loops.specs.Chunks.{chunk_at}
 use Rattle.loops.specs.Front.{tab}
 use Rattle.mdct.specs.Imdct.{imdct_sum}
 use Rattle.cosine_circle.proofs.Sizes.{sized, even, few}
 use Rattle.mdct_pairs.proofs.PairLanes.{sums, places-none}
 use Rattle.mdct.proofs.Lanes.{places, sums_none}
-use Rattle.mdct_pairs.proofs.Two.{short-step, Turn, turn, more-left, of-four, two-of, inputs-count, pairs-in, reads, small, reads-1, small-1, sums-2, small-2, lanes-3}
+use Rattle.mdct_pairs.proofs.Two.{short-step, Turn, turn, more-left, two-of, inputs-count, pairs-in, reads, small, reads-1, small-1, sums-2, small-2, lanes-3}
 use Rattle.mdct_pairs.proofs.lanes.Tables.four.Goals.{In-loop-four}
 use Rattle.mdct_pairs.proofs.lanes.Tables.four.Goals as goal
 
@@ -64,7 +65,7 @@ loop-four-preserved c =
     let l = c.loop-four in
     let f = λ (j : ℕ) (g : j < 4).
     ap (λ y. get_or (get_or y l.four-index []) j nan) c.as_chunks.ensures.front
-    ∙ of-four _ l.four-index j c.args.self.inputs.now (omega (arith, c.loop-four-test.true, c.as_chunks.ensures.front_len)) g in
+    ∙ chunk_at 4 _ l.four-index j nan c.args.self.inputs.now (omega (arith, c.loop-four-test.true, c.as_chunks.ensures.front_len)) g in
     let u = two-of c.args.self.inputs.now l.four-index 0 _ _ (f 0 (omega arith)) (f 1 (omega arith)) in
     let v = two-of c.args.self.inputs.now l.four-index 2 _ _ (f 2 (omega arith)) (f 3 (omega arith)) in
     let two : 2 * l.four-index + 1 + 1 ≡ 2 * (l.four-index + 1) = omega arith in (
