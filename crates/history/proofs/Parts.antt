@@ -133,15 +133,9 @@ module _ (a n v b m w : List Float) (la : length a ≡ half) (ln : length n ≡ 
   glued-length = ap length glued-front ∙ omega (arith, front_length, length-append front (m ++ w), length-append m w)
 
 module _ (h : List Float) (t : Tails) (l : length h ≡ whole) (z : Sized t) where
-  old : length (take half h) ≡ half
-  old = length-take-le half h (omega arith)
-
-  old-two : length (slice 2168 3192 h) ≡ half
-  old-two = length-slice 2168 3192 h (omega arith)
-
   parts-with : with_tails h t
-      ≡ glued (take half h) t.first.new t.first.over (slice 2168 3192 h) t.second.new t.second.over old z.first.new z.first.over old-two
-      z.second.new z.second.over
+      ≡ glued (take half h) t.first.new t.first.over (slice 2168 3192 h) t.second.new t.second.over
+      (length-take-le half h (omega arith)) z.first.new z.first.over (length-slice 2168 3192 h (omega arith)) z.second.new z.second.over
   unfolding with_tails glued
   parts-with = refl
 

@@ -12,7 +12,8 @@ use Rattle.state.specs.declared.Answer.{Answer}
 use Rattle.finish.specs.declared.Made.{Made}
 use Rattle.finish.specs.Finish.{finished}
 use Rattle.finish.proofs.End.{finished_accepted, refused-is}
-use Rattle.loss.specs.Loss.{noise_made, pitch_made, made, tails_by_noise, tails_by_pitch, tails_after, history_after, Outcome, outcome_of, finish, concealed, refused, answered, loss, in_buffer}
+use Rattle.loss.specs.Loss.{noise_made, pitch_made, made, tails_by_noise, tails_by_pitch, tails_after, history_after}
+use Rattle.loss.specs.Loss.{Outcome, outcome_of, finish, concealed, refused, answered, loss, in_buffer}
 
 module _ (s : State) (h : List Float) where
   -- what either path makes is what the loss makes

@@ -48,9 +48,11 @@ pub record MarkedEdges : Type 0 where
   -- square roots of 4 and 2
   pub roots : (sqrt_of (fin false 1 (pos 2)) ≡ fin false 1 (pos 1)) × (to_bits binary32 (sqrt_of (fin false 1 (pos 1))) ≡ 0x3fb5_04f3)
   -- rounding to f32 of 1 + 2 ^ -24 and 1 + 3 * 2 ^ -24
-  pub rounded : (narrow (fin false (2 ^ 24 + 1) (negsuc 23)) ≡ fin false 1 (pos 0)) × (narrow (fin false (2 ^ 24 + 3) (negsuc 23)) ≡ fin false (2 ^ 22 + 1) (negsuc 21))
+  pub rounded : (narrow (fin false (2 ^ 24 + 1) (negsuc 23)) ≡ fin false 1 (pos 0))
+      × (narrow (fin false (2 ^ 24 + 3) (negsuc 23)) ≡ fin false (2 ^ 22 + 1) (negsuc 21))
   -- gains at 0, 32, NaN and -150
   pub gains : (gain_of (of_bits binary32 0) ≡ of_bits binary32 0x3f80_0000) × (gain_of (of_bits binary32 0x4200_0000) ≡ of_bits binary32 0x4f80_0000)
       × (gain_of nan ≡ of_bits binary32 0x4f80_0000) × (gain_of (neg (of_bits binary32 0x4316_0000)) ≡ of_bits binary32 0)
   -- lags at start 0 and loss count 1: 102 and 720 pass, 101 and 721 get 7
-  pub lags : (refuses_state (carrying 102) whole ≡ 0) × (refuses_state (carrying 101) whole ≡ 7) × (refuses_state (carrying 720) whole ≡ 0) × (refuses_state (carrying 721) whole ≡ 7)
+  pub lags : (refuses_state (carrying 102) whole ≡ 0) × (refuses_state (carrying 101) whole ≡ 7)
+      × (refuses_state (carrying 720) whole ≡ 0) × (refuses_state (carrying 721) whole ≡ 7)

@@ -70,15 +70,11 @@ module _ (n : ℕ) (x e : List Float) (f : Filter) (lx : length x ≡ half + ove
   over : List Float
   over = folded window (slice n (n + overlap) e)
 
-  frame-size : length (take n e) ≡ n
-  frame-size = length-take-le n e (omega arith)
-
-  half-size : length (take half x) ≡ half
-  half-size = length-take-le half x (omega arith)
-
   framed-size : length framed ≡ half
   unfolding framed
-  framed-size = length-rolled (take n e) (take half x) (omega (arith, frame-size, half-size)) ∙ half-size
+  framed-size =
+      length-rolled (take n e) (take half x) (omega (arith, length-take-le n e (omega arith), length-take-le half x (omega arith)))
+      ∙ length-take-le half x (omega arith)
 
   over-size : length over ≡ overlap
   unfolding over
@@ -90,7 +86,8 @@ module _ (n : ℕ) (x e : List Float) (f : Filter) (lx : length x ≡ half + ove
 
   -- the roll takes the frame
   pub roll-takes : leb (length (take n e)) (length (take half x)) ≡ true
-  roll-takes = le-leb (length (take n e)) (length (take half x)) (omega (arith, frame-size, half-size))
+  roll-takes =
+      le-leb (length (take n e)) (length (take half x)) (omega (arith, length-take-le n e (omega arith), length-take-le half x (omega arith)))
 
   -- r: the newest after the roll
   module _ (r : List Float) (b : Bool)

@@ -18,14 +18,14 @@ pub slice_bounds-pcm-end : goal.slice_bounds-pcm-end
 slice_bounds-pcm-end c =
     let a = c.args in
     let call = c.conceal_record-call in
-    let words = c.report-words.ensures.words (omega (arith, samples-most a.rec.now a.head.now c.requires.1 _ _ _ call.result call.ensures)) in
+    let words = c.report.ensures.words (omega (arith, samples-most a.rec.now a.head.now c.requires.1 _ _ _ call.result call.ensures)) in
     omega (arith, count-most a.rec.now a.head.now c.requires.1 _ _ _ call.result call.ensures _ words, call.auto.pcm)
 
 pub slice_bounds-write_head-end : goal.slice_bounds-write_head-end
 slice_bounds-write_head-end c =
     let a = c.args in
     let call = c.conceal_record-call in
-    let words = c.report-words.ensures.words (omega (arith, samples-most a.rec.now a.head.now c.requires.1 _ _ _ call.result call.ensures)) in
+    let words = c.report.ensures.words (omega (arith, samples-most a.rec.now a.head.now c.requires.1 _ _ _ call.result call.ensures)) in
     sym (length-take-le _ call.new.pcm (omega (arith, count-most a.rec.now a.head.now c.requires.1 _ _ _ call.result call.ensures _ words, call.auto.pcm)))
 
 pub returns : goal.returns
@@ -33,7 +33,7 @@ unfolding writable
 returns c =
     let a = c.args in
     let call = c.conceal_record-call in
-    let words = c.report-words.ensures.words (omega (arith, samples-most a.rec.now a.head.now c.requires.1 _ _ _ call.result call.ensures)) in
+    let words = c.report.ensures.words (omega (arith, samples-most a.rec.now a.head.now c.requires.1 _ _ _ call.result call.ensures)) in
     let fits : writable a.rec.now call.new.history ≡ true = grind (arith, nat_tests) in
     let rec : c.match-call.rec ≡ left a.rec.now call.new.history call.result =
     elim c.match-call.branch [

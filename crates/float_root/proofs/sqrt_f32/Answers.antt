@@ -70,4 +70,5 @@ returns-in_default-2 c =
     let l : bits c.args.x < 2 ^ 31 = omega arith in
     let most = at-most-inf c.args.x (held _ (sym c.well_formed.0.1)) (real c.args.x c.if-is_nan.ensures.value) l in
     subst (λ (v : Float). of_bits binary32 c.root_bits.result ≡ sqrt_of v) (same c.args.x (held _ (sym c.well_formed.0.1)))
-    (root_is (bits c.args.x) c.root_bits.result (omega arith) (omega (arith, most)) (subst (λ (b : ℕ). RootBits (significand binary32 (b / 2 ^ 23) (b % 2 ^ 23) * 2 ^ 149) c.root_bits.result) c.from.ensures c.root_bits.ensures))
+    (root_is (bits c.args.x) c.root_bits.result (omega arith) (omega (arith, most))
+    (subst (λ (b : ℕ). RootBits (significand binary32 (b / 2 ^ 23) (b % 2 ^ 23) * 2 ^ 149) c.root_bits.result) c.from.ensures c.root_bits.ensures))
