@@ -8,10 +8,10 @@ pub const SHORT_BLOCK: usize = 120;
 // A frame has 2 ^ lm such blocks; the greatest lm.
 pub const LM_MOST: usize = 3;
 
-// The shortest frame, of one block, and the longest, of eight.
+// The shortest frame, of one block, and the longest, of 2 ^ LM_MOST.
 pub const FRAME_LEAST: usize = SHORT_BLOCK;
 
-pub const FRAME_MOST: usize = 8 * SHORT_BLOCK;
+pub const FRAME_MOST: usize = SHORT_BLOCK << LM_MOST;
 
 // The samples in which a block and the next one overlap.
 pub const OVERLAP: usize = 120;
@@ -36,7 +36,8 @@ const E_MEANS: [f32; MAX_BANDS] = [
     4.625, 4.3125, 4.5, 4.375, 4.625, 4.75, 4.4375, 3.75, 3.75, 3.75, 3.75, 3.75,
 ];
 
-// The edge numbered i, in bins of the shortest block; an i past the last counts as the last.
+// The edge numbered i, in bins of the shortest block; an i past the last counts as the last. This and `mean_energy` are one chain of
+// the library's calls each: a function of any table for both would be that chain again.
 pub fn band_edge(i: usize) -> usize
     ensures { result ≡ edge i }
 {
