@@ -2,7 +2,9 @@
 
 #![tactic(auto)]
 
-ghost use Rattle.std.specs.Prelude.{◌≡◌, ◌+◌, ◌≤◌, ◌<◌, length};
+ghost use Rattle.std.specs.Prelude.{◌≡◌, ◌+◌, ◌≤◌, ◌<◌, length, get_or};
+ghost use Rattle.std.specs.Float.{nan};
+ghost use Rattle.loops.specs.Front.{tab};
 ghost use Rattle.reply.specs.Reply.{replied, reply_if};
 ghost use Rattle.post_filter.specs.Limits.{period_most};
 ghost use Rattle.history.specs.History.{half, overlap};
@@ -12,36 +14,23 @@ use history::{HALF, OVERLAP, TAIL};
 use post_filter::{Filter, comb_gains, filter_fits};
 use reply::Refused;
 
-// What each tap is multiplied by.
-#[derive(Clone, Copy)]
-struct Taps {
-    g0: f32,
-    g1: f32,
-    g2: f32,
-}
-
-// The negated gain times each of the tapset's factors.
-#[tactic(auto, unfolding(crate::specs::Comb::tap_gain))]
-fn tap_gains(f: Filter) -> Taps
-    ensures { (result.g0 ≡ tap_gain f 0) × (result.g1 ≡ tap_gain f 1) × (result.g2 ≡ tap_gain f 2) }
+// What each tap is multiplied by: the negated gain times each of the tapset's factors.
+fn tap_gains(f: Filter) -> [f32; 3]
+    ensures { result ≡ tab (tap_gain f) 3 }
 {
-    let c = comb_gains(f.tapset);
     let g = -f.gain;
-    Taps {
-        g0: g * c[0],
-        g1: g * c[1],
-        g2: g * c[2],
-    }
+    // Of any tapset: `comb_gains` is total, and the limits are the caller's.
+    comb_gains(f.tapset).map(|c| g * c)
 }
 
 // Starts from the sample and adds tap by tap.
 #[tactic(auto, unfolding(crate::specs::Comb::comb_at, crate::specs::Comb::pair_at))]
-fn comb_at(x: &[f32], i: usize, period: usize, g: Taps) -> f32
+fn comb_at(x: &[f32], i: usize, period: usize, g: [f32; 3]) -> f32
     requires { (period + 2 ≤ i) × (i < length x.now) × (2 < period) }
-    ensures { result ≡ comb_at x.now i period g.g0 g.g1 g.g2 }
+    ensures { result ≡ comb_at x.now i period (get_or g 0 nan) (get_or g 1 nan) (get_or g 2 nan) }
 {
     let a = i - period;
-    x[i] + g.g0 * x[a] + g.g1 * (x[a - 1] + x[a + 1]) + g.g2 * (x[a - 2] + x[a + 2])
+    x[i] + g[0] * x[a] + g[1] * (x[a - 1] + x[a + 1]) + g[2] * (x[a - 2] + x[a + 2])
 }
 
 // The overlap at the end of x filtered into dst; x itself is only read. Refused, with dst as lent: dst not of 120 samples,
@@ -55,9 +44,11 @@ pub fn comb_filter_to(dst: &mut [f32], x: &[f32], f: Filter) -> Result<(), Refus
         return Err(Refused);
     }
     let g = tap_gains(f);
+    // `as`: the library has no `From` of a u32 for usize.
+    let period = f.period as usize;
     // By place: each reads x around its own place one period back.
     for (i, sample) in dst.iter_mut().enumerate() {
-        *sample = comb_at(x, HALF + i, f.period as usize, g);
+        *sample = comb_at(x, HALF + i, period, g);
     }
     Ok(())
 }

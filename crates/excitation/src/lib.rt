@@ -34,9 +34,7 @@ pub fn repeat_cycle(e: &mut [f32], voice: Voice, mem: &[f32; ORDER]) -> Result<f
         (pitch_cycle (length e.old) voice.entry.lpc.now mem.now voice.entry.newest.now voice.entry.lag) (cycle e.old zero32) }
 {
     let Voice { newest, lag, lpc } = voice;
-    let Ok(mut exc) = <[f32; HALF]>::try_from(newest) else {
-        return Err(Refused);
-    };
+    let mut exc = <[f32; HALF]>::try_from(newest).map_err(|_| Refused)?;
     let period = decay::decay_period(lag);
     // Of the excitation, the last two periods are all that is read.
     let from = HALF - 2 * period;

@@ -1,9 +1,8 @@
 -- Laws of plain variables that the proofs cite.
 use Rattle.std.proofs.Common.{◌≡◌, ap, ◌∙◌, true, List, ℕ, ◌-◌, ◌<◌, length, arith}
 use Prim.Native.Nat.{min}
-use Rattle.std.specs.Float.{nan}
 use Rattle.std.proofs.lemmas.Bool.Decides.{nat_tests}
-use Rattle.std.specs.Float.{Float}
+use Rattle.std.specs.Float.{Float, nan}
 use Rattle.loops.specs.Front.{front, tab, tab-all}
 use Rattle.history.specs.History.{overlap}
 use Rattle.fold.specs.Fold.{from_end, fold_at, folded, fold_takes}

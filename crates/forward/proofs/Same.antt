@@ -9,10 +9,9 @@ use lib.Ieee.{Float}
 use Rattle.history.specs.History.{half, Tails, tails, with_tails}
 use Rattle.history.proofs.Parts.{Sized, tails-sized}
 use Rattle.post_filter.specs.declared.Filter.{Filter}
-use Rattle.settings.specs.Settings.{frame, stereo}
+use Rattle.settings.specs.Settings.{frame, stereo, needed}
 use Rattle.state.specs.State.{core, noisy}
 use Rattle.state.specs.Refusal.{check_pcm, refuses_state, refusal}
-use Rattle.settings.specs.Settings.{needed}
 use Rattle.state.specs.declared.State.{State}
 use Rattle.settings.proofs.Passed.{or-zero, frame-high}
 use Rattle.state.proofs.Keep.{Ok, ok-start}

@@ -13,10 +13,10 @@ use Rattle.buffers.specs.Buffers.{zero32}
 use Rattle.plc.specs.Const.{floor32}
 use Rattle.plc.specs.Autocorr.{lag_term, lag_to, lag_sum, celt_autocorr}
 use Rattle.plc_lag_window.specs.LagWindow.{lag_factor, lag_windowed, lag_value, lag_window}
-use Rattle.plc_lpc.specs.Lpc.{lpc_to, celt_lpc, length-celt_lpc}
+use Rattle.plc_lpc.specs.Lpc.{lpc_to, celt_lpc}
 use Rattle.plc_pad.specs.Past.{past}
 use Rattle.plc_fir.specs.Fir.{fir_at, celt_fir, length-celt_fir}
-use Rattle.plc_whiten.specs.Whiten.{tilt, damping_to, damped, whitener, whiten_lp}
+use Rattle.plc_whiten.specs.Whiten.{tilt, damping_to, damped, whitener, length-whitener, whiten_lp}
 use Rattle.plc_downsample.specs.Downsample.{half32, smoothed_at, smoothed, summed_at, smoothed_pair, nan-first, nan-second, pitch_downsample, pitch_downsample_pair}
 use Rattle.plc_search.specs.Search.{pitch_search}
 use Rattle.lag_laws.specs.NoPitch.{SignedZero, zero-mul, zero-add, silent, all-nan}
@@ -138,10 +138,6 @@ whitener_fades : (x : List Float) → Each SignedZero (length x) x → Each Fade
 unfolding whitener
 whitener_fades x a j h =
     rw (autocorr_zero x a) (zero_fades (get_or floor_whitener j nan) (is-zero (get_or floor_whitener j nan) (floor-zero j h)))
-
-length-whitener : (x : List Float) → length (whitener x) ≡ 4
-unfolding whitener damped
-length-whitener x = length-tab _ _ ∙ length-celt_lpc (lag_window (celt_autocorr x 5)) 4
 
 -- ---- filters
 module _ (num mem x : List Float) where

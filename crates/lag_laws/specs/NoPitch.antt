@@ -51,7 +51,8 @@ module _ (y : List Float) (c : (i : ℕ) → i < 155 → NotPositive (correlatio
   unfolding fine_best fine
   fine-best_start =
       none-positive (fine y (coarse_best y)) y 664 310
-      (λ i h. ap (lt zero32) (get_or-tab (fine_at y (coarse_best y).first.at (coarse_best y).second.at) 310 i nan h) ∙ fine-not (coarse_best y).first.at (coarse_best y).second.at i h)
+      (λ i h. ap (lt zero32) (get_or-tab (fine_at y (coarse_best y).first.at (coarse_best y).second.at) 310 i nan h)
+      ∙ fine-not (coarse_best y).first.at (coarse_best y).second.at i h)
 
   pub none_found : pitch_search y ≡ 0
   unfolding pitch_search refined
@@ -84,7 +85,8 @@ unfolding add of_bits
 zero-add true = refl
 zero-add false = refl
 
-cross-zero : (x y : List Float) (i n : ℕ) → ((j : ℕ) → j < n → SignedZero (get_or x j nan)) → ((j : ℕ) → j < n → SignedZero (get_or y (i + j) nan)) → cross_sum x y i n ≡ zero32
+cross-zero : (x y : List Float) (i n : ℕ) → ((j : ℕ) → j < n → SignedZero (get_or x j nan)) → ((j : ℕ) → j < n → SignedZero (get_or y (i + j) nan))
+    → cross_sum x y i n ≡ zero32
 unfolding cross_sum sum_to
 cross-zero x y i n a b =
     fold-holds (λ s. s ≡ zero32) _ zero32 n refl
@@ -99,7 +101,8 @@ zero-raised : max_of zero32 minus_one ≡ zero32
 unfolding max_of is_nan lt neg of_bits
 zero-raised = refl
 
-correlation-zero : (x y : List Float) (n i : ℕ) → ((j : ℕ) → j < n → SignedZero (get_or x j nan)) → ((j : ℕ) → j < n → SignedZero (get_or y (i + j) nan)) → NotPositive (correlation x y n i)
+correlation-zero : (x y : List Float) (n i : ℕ) → ((j : ℕ) → j < n → SignedZero (get_or x j nan)) → ((j : ℕ) → j < n → SignedZero (get_or y (i + j) nan))
+    → NotPositive (correlation x y n i)
 unfolding correlation
 correlation-zero x y n i a b = ap (λ z. lt zero32 (max_of z minus_one)) (cross-zero x y i n a b) ∙ ap (lt zero32) zero-raised ∙ zero-not-positive
 

@@ -27,9 +27,8 @@ fn low_pass(two: bool, history: &[f32; WHOLE]) -> [f32; HALF]
 pub fn find_lag(two: bool, history: &[f32]) -> Result<u32, Refused>
     ensures { result ≡ ok_if (eqb (length history.now) whole) (lag_of two history.now) }
 {
-    let Ok(history) = <&[f32; WHOLE]>::try_from(history) else {
-        return Err(Refused);
-    };
+    let history = <&[f32; WHOLE]>::try_from(history).map_err(|_| Refused)?;
     let low = low_pass(two, history);
+    // `as`: the library has no `From` of a usize for u32; a lag is 720 at most.
     Ok((LAG_MOST - pitch_search(&low)) as u32)
 }

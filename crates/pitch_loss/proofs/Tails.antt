@@ -2,7 +2,7 @@
 use mathlib.Core.Path.{◌≡◌, ap, ◌∙◌, sym}
 use mathlib.Core.Bool.{Bool, true, false}
 use mathlib.Core.List.{List, ◌++◌}
-use Prim.Native.Nat.{ℕ, ◌+◌, ◌-◌, ◌*◌, ◌≤◌}
+use Prim.Native.Nat.{ℕ, ◌+◌, ◌*◌, ◌≤◌}
 use native.Mathlib.Omega.{arith}
 use lib.Dec.{eqb, leb}
 use lib.ListN.{length, take, drop, length-drop}
@@ -43,10 +43,6 @@ pitches_sized two n lag first c f t h z = record {
   first = pitch_sized n t.first lag first (take order c) f h z.first;
   second = cond_either TailSized two _ t.second (pitch_sized n t.second lag first (drop order c) f h z.second) z.second;
 }
-
--- how many stand in the n from a on
-pub part_count : (a n : ℕ) → a + n - a ≡ n
-part_count a n = omega arith
 
 -- ---- the buffers
 
@@ -125,25 +121,24 @@ module _ (n lag : ℕ) (first : Bool) (h c : List Float) (ln : n ≤ longest_fra
 
 -- ---- a frame taken in
 
-pub tail-room : (at k : ℕ) → k ≡ whole → at ≤ channel + half → at + (half + overlap) ≤ k
-tail-room at k p l = omega arith
-
-part-size : (at : ℕ) (h : List Float) → at + (half + overlap) ≤ length h → length (take (half + overlap) (drop at h)) ≡ half + overlap
-part-size at h l = length-take-le (half + overlap) (drop at h) (omega (arith, length-drop at h))
-
-module _ (at k n : ℕ) (f : Filter) (h e : List Float) (p : k ≡ half + overlap) (l : at + (half + overlap) ≤ length h) (ln : n ≤ longest_frame) (le : length e ≡ longest)
-    (fits : filter_fits f ≡ true) where
-  pub part-takes : tail_takes (length (take k (drop at h))) n (length (take (n + extra) e)) f ≡ true
-  part-takes = tail-takes _ n _ f (ap (λ j. length (take j (drop at h))) p ∙ part-size at h l) ln (front-size n e ln le) fits
+module _ (n : ℕ) (f : Filter) (t e : List Float) (lt : length t ≡ half + overlap) (ln : n ≤ longest_frame) (le : length e ≡ longest) (fits : filter_fits f ≡ true) where
+  pub part-takes : tail_takes (length t) n (length (take (n + extra) e)) f ≡ true
+  part-takes = tail-takes _ n _ f lt ln (front-size n e ln le) fits
 
   pub taken_in : (y : List Float) (b : Bool)
-      → reply b y
-      ≡ reply_if (tail_takes (length (take k (drop at h))) n (length (take (n + extra) e)) f)
-      (tail_list (tail_after n (take (n + extra) e) f (tail_of (take k (drop at h))))) (take k (drop at h))
-      → put at k y h ≡ put at (half + overlap) (tail_list (tail_after n (take (n + extra) e) f (tail_of (take (half + overlap) (drop at h))))) h
-  taken_in y b r =
-      let g : y ≡ tail_list (tail_after n (take (n + extra) e) f (tail_of (take k (drop at h)))) = reply-lent _ _ _ r part-takes in
-      ap (λ w. put at k w h) g ∙ ap (λ j. put at j (tail_list (tail_after n (take (n + extra) e) f (tail_of (take j (drop at h))))) h) p
+      → reply b y ≡ reply_if (tail_takes (length t) n (length (take (n + extra) e)) f) (tail_list (tail_after n (take (n + extra) e) f (tail_of t))) t
+      → y ≡ tail_list (tail_after n (take (n + extra) e) f (tail_of t))
+  taken_in y b r = reply-lent _ _ _ r part-takes
+
+-- a part of a channel's size
+pub part-size : (at k : ℕ) (h : List Float) → k ≡ half + overlap → at + (half + overlap) ≤ length h → length (take k (drop at h)) ≡ half + overlap
+part-size at k h p l = ap (λ j. length (take j (drop at h))) p ∙ length-take-le (half + overlap) (drop at h) (omega (arith, length-drop at h))
+
+-- it stands again where it was lent
+pub part-back : (at k n : ℕ) (f : Filter) (h x t : List Float) → k ≡ half + overlap → t ≡ tail_list (tail_after n x f (tail_of (take k (drop at h))))
+    → put at k t h ≡ put at (half + overlap) (tail_list (tail_after n x f (tail_of (take (half + overlap) (drop at h))))) h
+part-back at k n f h x t p e =
+    ap (λ w. put at k w h) e ∙ ap (λ j. put at j (tail_list (tail_after n x f (tail_of (take j (drop at h))))) h) p
 
 -- ---- the tails of a history
 

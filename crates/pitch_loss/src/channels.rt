@@ -1,7 +1,6 @@
 // The used channels of a whole history: each continued, and what follows taken in.
-ghost use Rattle.std.specs.Prelude.{◌≡◌, true, false, ◌+◌, ◌≤◌, take, drop};
-ghost use Rattle.loops.specs.Part.{put};
-ghost use Rattle.history.specs.History.{half, overlap, channel, tails, with_tails, tail_list, tail_of};
+ghost use Rattle.std.specs.Prelude.{◌≡◌, true, false, ◌+◌, ◌≤◌, length, take, drop};
+ghost use Rattle.history.specs.History.{half, overlap, tails, with_tails, tail_list, tail_of};
 ghost use Rattle.post_filter.specs.Limits.{filter_fits};
 ghost use Rattle.state.specs.Refusal.{lag_least, lag_most};
 ghost use Rattle.extrapolate.specs.Extrapolate.{order, extrapolated};
@@ -11,7 +10,7 @@ ghost use Rattle.pitch_loss.specs.PitchLoss.{pitch_tails};
 use crate::Pitch;
 use excitation::Voice;
 use extrapolate::{LONGEST, extrapolate, extrapolate_pair};
-use history::{EXTRA, HALF, SAMPLES, SECOND_END, SECOND_HALF, TAIL, WHOLE};
+use history::{CHANNEL, EXTRA, HALF, SAMPLES, SECOND_END, SECOND_HALF, WHOLE};
 use plc_pad::ORDER;
 use take_in::take_in;
 
@@ -43,6 +42,7 @@ impl Loss {
             ≡ extrapolated (self.n + extra) (tails h.now).second.new self.pitch.lag self.pitch.first (drop order self.pitch.predictor)) }
     {
         let m = self.n + EXTRA;
+        // `as`, here and below: the library has no `From` of a u32 for usize.
         let lag = self.pitch.lag as usize;
         extrapolate_pair(
             &mut e0[..m],
@@ -62,21 +62,12 @@ impl Loss {
         .unwrap();
     }
 
-    // The front of e comes in at the end of the channel whose newest 1,024 begin at `at`.
-    fn take_at(self, h: &mut [f32; WHOLE], at: usize, e: &[f32; LONGEST])
-        requires { at ≤ channel + half }
-        ensures { h.new
-            ≡ put at (half + overlap)
-            (tail_list (tail_after self.n (take (self.n + extra) e.now) self.pitch.filter (tail_of (take (half + overlap) (drop at h.old)))))
-            h.old }
+    // The front of e comes in at the end of t, a channel's newest 1,024 and its overlap.
+    fn take_front(self, t: &mut [f32], e: &[f32; LONGEST])
+        requires { length t.old ≡ half + overlap }
+        ensures { t.new ≡ tail_list (tail_after self.n (take (self.n + extra) e.now) self.pitch.filter (tail_of t.old)) }
     {
-        take_in(
-            &mut h[at..at + TAIL],
-            self.n,
-            &e[..self.n + EXTRA],
-            self.pitch.filter,
-        )
-        .unwrap();
+        take_in(t, self.n, &e[..self.n + EXTRA], self.pitch.filter).unwrap();
     }
 
     // Mono runs the single filter, stereo the pair.
@@ -86,6 +77,7 @@ impl Loss {
             ≡ with_tails history.old
             (pitch_tails false self.n self.pitch.lag self.pitch.first self.pitch.predictor self.pitch.filter (tails history.old)) }
     {
+        // The longest frame's, cut to n, here and below: there is no heap.
         let mut e = [0.0; LONGEST];
         extrapolate(
             &mut e[..self.n + EXTRA],
@@ -97,7 +89,7 @@ impl Loss {
             self.pitch.first,
         )
         .unwrap();
-        self.take_at(history, HALF, &e);
+        self.take_front(&mut history[HALF..CHANNEL], &e);
     }
 
     pub(crate) fn conceal_stereo(self, history: &mut [f32; WHOLE])
@@ -108,7 +100,7 @@ impl Loss {
         let mut e0 = [0.0; LONGEST];
         let mut e1 = [0.0; LONGEST];
         self.continue_both(&mut e0, &mut e1, history);
-        self.take_at(history, HALF, &e0);
-        self.take_at(history, SECOND_HALF, &e1);
+        self.take_front(&mut history[HALF..CHANNEL], &e0);
+        self.take_front(&mut history[SECOND_HALF..WHOLE], &e1);
     }
 }

@@ -49,9 +49,7 @@ pub fn pitch_loss(k: Settings, history: &mut [f32], pitch: Pitch) -> Result<(), 
         (pitch_tails (stereo k) (frame k) pitch.lag pitch.first pitch.predictor pitch.filter (tails history.old)))
         history.old }
 {
-    let Some(history) = history.as_mut_array::<WHOLE>() else {
-        return Err(Refused);
-    };
+    let history = history.as_mut_array::<WHOLE>().ok_or(Refused)?;
     if !takes(k, pitch) {
         return Err(Refused);
     }

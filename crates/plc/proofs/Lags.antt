@@ -1,10 +1,10 @@
 -- the sums of the autocorrelation, term by term
 use mathlib.Core.Path.{◌≡◌, ap, ap₂, ◌∙◌, sym}
-use mathlib.Core.List.{List}
-use Prim.Native.Nat.{ℕ, ◌+◌, ◌-◌, ◌≤◌, ◌<◌, min}
+use mathlib.Core.List.{List, ◌∷◌}
+use Prim.Native.Nat.{ℕ, suc, ◌+◌, ◌-◌, ◌≤◌, ◌<◌, min}
 use native.Mathlib.Omega.{arith}
 use lib.ListN.{length, get_or, set}
-use Rattle.std.proofs.Common.{reverse, ext_get_or, take, drop, length-take, length-drop, get_or-take, get_or-drop}
+use Rattle.std.proofs.Common.{reverse, ext_get_or, take, drop, drop-drop, length-take, length-drop, get_or-take, get_or-drop}
 use Rattle.std.proofs.lemmas.List.{get_or-reverse, length-reverse}
 use lib.Ieee.{Float, nan, binary32, add, mul}
 use Rattle.loops.specs.Front.{front, tab, tab-read, tab-more, get_or-tab, length-tab}
@@ -55,6 +55,33 @@ row_more x n i j k row₀ row e₀ e h g ek =
     let r : get_or row j nan ≡ lag_to x (n - 1 - j) i =
     tab-read (row_at x n (i + 1)) nan row₀ row j e (omega arith) ∙ ap (λ z. get_or z j nan) e₀ ∙ get_or-tab (row_at x n i) n j nan h in
     tab-more (row_at x n (i + 1)) nan row₀ row j e _ (lag_more x (n - 1 - j) i k (get_or row j nan) (omega arith) ek r) (omega arith)
+
+-- one sample more of those from i on
+pub sample_turn : (x rest next : List Float) (i : ℕ) (v : Float) → rest ≡ drop i x → rest ≡ v ∷ next
+    → (i < length x) × (next ≡ drop (i + 1) x) × (v ≡ get_or x i nan) × (length x - length next ≡ i + 1)
+sample_turn x rest next i v e f =
+    let h : length rest ≡ suc (length next) = ap length f in
+    let g : i < length x = omega (arith, h, ap length e, length-drop i x) in
+    let z : i + 0 ≡ i = omega arith in (
+      g,
+      ap (drop 1) (sym f ∙ e) ∙ drop-drop 1 i x,
+      ap (λ z. get_or z 0 nan) (sym f ∙ e) ∙ get_or-drop i x 0 nan ∙ ap (λ m. get_or x m nan) z,
+      omega (arith, h, ap length e, length-drop i x),
+    )
+
+-- the window beside the sample has what every lag's term multiplies it by
+pub row_turn : (x rest next w part row₀ row : List Float) (v : Float) (n k j size : ℕ) → rest ≡ drop (n - 1 + k) x → rest ≡ v ∷ next
+    → size ≡ n → w ≡ drop k x → part ≡ take size w → row₀ ≡ lag_row x n (n - 1 + k)
+    → row ≡ front (tab (row_at x n (length x - length next)) j) row₀ j → j < n
+    → set row j (add binary32 (get_or row j nan) (mul binary32 v (get_or part j nan))) ≡ front (tab (row_at x n (length x - length next)) (j + 1)) row₀ (j + 1)
+row_turn x rest next w part row₀ row v n k j size e f es ew ep e₀ er h =
+    let t = sample_turn x rest next (n - 1 + k) v e f in
+    let i = n - 1 + k in
+    let r : get_or part j nan ≡ get_or x (k + j) nan =
+    ap (λ z. get_or z j nan) ep ∙ get_or-take size w j nan (omega arith) ∙ ap (λ z. get_or z j nan) ew ∙ get_or-drop k x j nan in
+    ap₂ (λ y z. set row j (add binary32 (get_or row j nan) (mul binary32 y z))) t.2 r
+    ∙ row_more x n i j (k + j) row₀ row e₀ (er ∙ ap (λ z. front (tab (row_at x n z) j) row₀ j) t.3) h (omega arith) (omega arith)
+    ∙ sym (ap (λ z. front (tab (row_at x n z) (j + 1)) row₀ (j + 1)) t.3)
 
 -- a row that has the longest lag first, turned
 pub turned : (x : List Float) (n : ℕ) (row y : List Float) → row ≡ lag_row x n (length x) → y ≡ reverse row → y ≡ tab (lag_sum x) n

@@ -4,11 +4,16 @@ ghost use Rattle.plc_window.specs.Window.{windowed_ends};
 ghost use Rattle.plc.specs.Autocorr.{celt_autocorr, lag_row};
 
 use history::{HALF, OVERLAP};
+use plc_pad::ORDER;
+
+// The order of the predictor that whitens downsampled samples.
+pub const WHITENING: usize = 4;
 
 // What the correlation at lag 0 rises by.
 const NOISE_FLOOR: f32 = 10.0;
 
 // The terms of each lag whose later sample stands before the longest lag.
+// The lag by the place of its sum: a zip with `iter_mut` tells a proof the items, not the list that they leave.
 fn first_terms(x: &[f32], row: &mut [f32])
     requires { (0 < length row.old) × (length row.old ≤ length x.now) }
     ensures { row.new ≡ lag_row x.now (length row.old) (length row.old - 1) }
@@ -25,16 +30,15 @@ fn first_terms(x: &[f32], row: &mut [f32])
 }
 
 // The other terms: at each sample one of every lag, so that the sums run side by side, each in its own order.
-// By place: a zip with `iter_mut` tells a proof the items, not the list that they leave.
+// Within by place: a zip with `iter_mut` tells a proof the items, not the list that they leave.
 fn other_terms(x: &[f32], row: &mut [f32])
     requires { (0 < length row.old) × (length row.old ≤ length x.now) × (row.old ≡ lag_row x.now (length row.old) (length row.old - 1)) }
     ensures { row.new ≡ lag_row x.now (length row.old) (length x.now) }
 {
-    let top = row.len() - 1;
-    for i in top..x.len() {
-        let v = x[i];
+    let lags = row.len();
+    for (v, part) in x[lags - 1..].iter().zip(x.windows(lags)) {
         for (j, sum) in row.iter_mut().enumerate() {
-            *sum += v * x[i - top + j];
+            *sum += *v * part[j];
         }
     }
 }
@@ -52,15 +56,15 @@ fn correlations<const LAGS: usize>(x: &[f32; HALF]) -> [f32; LAGS]
     row
 }
 
-// The correlations at the lags 0 to 4. A size each, here and below: of any number of lags the function would need a `requires`.
-pub fn celt_autocorr(x: &[f32; HALF]) -> [f32; 5]
+// The correlations that the whitening's predictor needs. A size each, here and below: of any number of lags the function would need a `requires`.
+pub fn celt_autocorr(x: &[f32; HALF]) -> [f32; WHITENING + 1]
     ensures { result ≡ celt_autocorr x.now 5 }
 {
     correlations(x)
 }
 
-// The correlations at the lags 0 to 24, the window on both ends.
-pub fn celt_autocorr_windowed(x: &[f32; HALF], window: &[f32; OVERLAP]) -> [f32; 25]
+// The correlations that a channel's predictor needs, the window on both ends.
+pub fn celt_autocorr_windowed(x: &[f32; HALF], window: &[f32; OVERLAP]) -> [f32; ORDER + 1]
     ensures { result ≡ celt_autocorr (windowed_ends x.now window.now) 25 }
 {
     correlations(&plc_window::windowed_ends(x, window))

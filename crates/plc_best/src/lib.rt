@@ -81,11 +81,9 @@ fn two_best(xcorr: &[f32], y: &[f32], len: usize) -> Best
         second: Candidate { at: 1, ..none },
     };
     let mut syy = buffers::energy(&y[..len], 1.0);
-    for (i, x) in xcorr.iter().enumerate() {
+    // The newest sample stands len places after the oldest.
+    for (i, ((x, oldest), newest)) in xcorr.iter().zip(y).zip(&y[len..]).enumerate() {
         best = best.considered(*x, syy, i);
-        // By place: three lists in step, the newest sample len places after the oldest.
-        let newest = y[i + len];
-        let oldest = y[i];
         syy = float_extremes::max_f32(syy + (newest * newest - oldest * oldest), 1.0);
     }
     best

@@ -30,6 +30,7 @@ fn cross_sums(x: &[f32], y: &[f32], sums: &mut [f32])
     ensures { sums.new ≡ tab (λ (i : ℕ). cross_sum x.now y.now i (length x.now)) (length sums.old) }
 {
     sums.fill(0.0);
+    // By place: `windows` of no values would panic, and no sums at all are taken too.
     for (j, v) in x.iter().enumerate() {
         add_products(*v, &y[j..], sums);
     }

@@ -41,18 +41,14 @@ pub fn pitch_downsample(x: &[f32], second: Option<&[f32]>, x_lp: &mut [f32]) -> 
         (λ y. replied result x_lp.new
         ≡ reply_if (downsample_pair_takes (length x.now) (length y.now) (length x_lp.old)) (pitch_downsample_pair x.now y.now) x_lp.old) }
 {
-    let Ok(x) = <&[f32; SAMPLES]>::try_from(x) else {
-        return Err(Refused);
-    };
+    let x = <&[f32; SAMPLES]>::try_from(x).map_err(|_| Refused)?;
     if x_lp.len() != HALF {
         return Err(Refused);
     }
     match second {
         None => fill_by(x_lp, |i| smooth_at(x, i)),
         Some(y) => {
-            let Ok(y) = <&[f32; SAMPLES]>::try_from(y) else {
-                return Err(Refused);
-            };
+            let y = <&[f32; SAMPLES]>::try_from(y).map_err(|_| Refused)?;
             fill_by(x_lp, |i| smooth_at(x, i) + smooth_at(y, i));
         }
     }

@@ -19,6 +19,7 @@ fn padded(buf: &[f32], mem: &[f32]) -> [f32; ORDER + LONGEST]
     requires { (length buf.now ≤ 1024) × (length mem.now ≤ 24) }
     ensures { Remembers result mem.now × Holds result buf.now (length buf.now) }
 {
+    // The longest that is taken, cut to buf's: there is no heap.
     let mut pad = [0.0f32; ORDER + LONGEST];
     plc_pad::remember(&mut pad, mem).unwrap();
     pad[ORDER..ORDER + buf.len()].copy_from_slice(buf);
@@ -51,7 +52,7 @@ fn filter_from(buf: &mut [f32], from: usize, num: &[f32], mem: &[f32])
     add_taps(&mut buf[from..], num, &pad[from..end]);
 }
 
-// Filters from place `from` on; what stands before it stays.
+// Filters from place `from` on; what stands before it is read, so that a part from there on could not be lent alone, and stays.
 // Three slices: buf is changed, and taps and memory have owners of their own.
 // mem, the inputs before the start with the most recent first, is as long as num, 24 at most, and buf 1,024 at most;
 // else refused, and buf stays.

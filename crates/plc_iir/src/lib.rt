@@ -25,6 +25,7 @@ pub fn celt_iir_inplace(
     if LONGEST < buf.len() {
         return Err(Refused);
     }
+    // The longest that is taken, cut to buf's: there is no heap.
     let mut y = [0.0f32; ORDER + LONGEST];
     plc_pad::remember(&mut y, mem).unwrap();
     // By place: each turn reads the 24 places before the one that it writes.

@@ -31,6 +31,7 @@ pub fn celt_iir_pair(
     if a.len() != b.len() || LONGEST < a.len() {
         return Err(Refused);
     }
+    // The longest that is taken, cut to the channels': there is no heap.
     let mut y = [0.0f32; ORDER + LONGEST];
     let mut z = [0.0f32; ORDER + LONGEST];
     plc_pad::remember(&mut y, mem_a).unwrap();

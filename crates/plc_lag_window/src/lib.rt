@@ -24,6 +24,7 @@ fn lag_value(a: f32, i: usize) -> f32
     if i == 0 {
         return a * FLOOR_FACTOR;
     }
+    // `as`: the library has no `From` of a usize for f32.
     let f = LAG_STEP * (i as f32);
     a - a * f * f
 }

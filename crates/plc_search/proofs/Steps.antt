@@ -75,10 +75,17 @@ coarse-pair y x4 y4 xc h e1 e2 e3 e4 =
     found (take 155 xc) y4 332 155 (first_count (correlation x4 y4 (length x4)) xc 155 156 (omega arith) e3) (omega arith) e4
     ∙ ap (λ z. Some (z.first.at, z.second.at)) (coarse-done y x4 y4 xc h e1 e2 e3)
 
-pub coarse-found : {r : Option (ℕ × ℕ)} {p : ℕ × ℕ} (y x4 y4 xc : List Float) → length y ≡ 1024 → x4 ≡ every_second (take 664 (drop 360 y)) 332
+coarse-found : {r : Option (ℕ × ℕ)} {p : ℕ × ℕ} (y x4 y4 xc : List Float) → length y ≡ 1024 → x4 ≡ every_second (take 664 (drop 360 y)) 332
     → y4 ≡ every_second y 487 → xc ≡ tab (correlation x4 y4 (length x4)) 156 → r ≡ best_pitches (take 155 xc) y4 332 (length (take 155 xc)) → r ≡ Some p
     → p ≡ ((coarse_best y).first.at, (coarse_best y).second.at)
 coarse-found y x4 y4 xc h e1 e2 e3 e4 q = same_Some _ _ (sym q ∙ coarse-pair y x4 y4 xc h e1 e2 e3 e4)
+
+-- from what the code's calls leave
+pub coarse-known : {t : Bool} {x4 y4 r : List Float} {o : Option (ℕ × ℕ)} {p : ℕ × ℕ} (y w : List Float) → length y ≡ 1024
+    → x4 ≡ every_second (take 664 (drop 360 y)) 332 → y4 ≡ every_second y 487 → length w ≡ 156
+    → reply t r ≡ reply_if (correlate_takes (length x4) (length y4) (length w)) (tab (correlation x4 y4 (length x4)) (length w)) w
+    → o ≡ best_pitches (take 155 r) y4 332 (length (take 155 r)) → o ≡ Some p → p ≡ ((coarse_best y).first.at, (coarse_best y).second.at)
+coarse-known y w h ex ey l e f q = coarse-found y _ _ _ h ex ey (coarse-row (take 664 (drop 360 y)) y w ex ey l e) f q
 
 coarse-within : (y : List Float) → Within 155 (coarse_best y)
 unfolding coarse_best
@@ -99,13 +106,15 @@ fine-first : {r : Option (ℕ × ℕ)} {p : ℕ × ℕ} (xc y : List Float) → 
     → p.0 ≡ (find_best_pitch xc y 664 310).first.at
 fine-first xc y l m e q = ap (λ z. z.0) (same_Some _ _ (sym q ∙ fine-pair xc y l m e))
 
-pub fine-least : {r : Option (ℕ × ℕ)} {p : ℕ × ℕ} (xc y : List Float) → length xc ≡ 310 → length y ≡ 1024 → r ≡ best_pitches xc y 664 (length xc) → r ≡ Some p → p.0 < 310
+pub fine-least : {r : Option (ℕ × ℕ)} {p : ℕ × ℕ} (xc y : List Float) → length xc ≡ 310 → length y ≡ 1024 → r ≡ best_pitches xc y 664 (length xc)
+    → r ≡ Some p → p.0 < 310
 fine-least xc y l m e q =
     let w : (find_best_pitch xc y 664 310).first.at < 310 = (best-within xc y 664 310 (omega arith)).first in
     omega (arith, fine-first xc y l m e q)
 
 pub search-done : {r : Option (ℕ × ℕ)} {b p : ℕ × ℕ} {n : ℕ} (y xc : List Float) → b ≡ ((coarse_best y).first.at, (coarse_best y).second.at)
-    → xc ≡ tab (fine_at y b.0 b.1) 310 → r ≡ best_pitches xc y 664 (length xc) → r ≡ Some p → n ≡ refined xc p.0 → length xc ≡ 310 → length y ≡ 1024 → n ≡ pitch_search y
+    → xc ≡ tab (fine_at y b.0 b.1) 310 → r ≡ best_pitches xc y 664 (length xc) → r ≡ Some p → n ≡ refined xc p.0 → length xc ≡ 310 → length y ≡ 1024
+    → n ≡ pitch_search y
 unfolding pitch_search fine_best fine
 search-done y xc e ex ef q en l m =
     let x : xc ≡ fine y (coarse_best y) = ex ∙ ap (λ z. tab (fine_at y z.0 z.1) 310) e in

@@ -85,11 +85,7 @@ impl Near {
         ensures { result ≡ near_at self.now.row self.now.place.at i }
     {
         let b = self.place.at;
-        if 2 * b <= i + 2 && i <= 2 * b + 2 {
-            Some(self.row[i - self.place.first_near()])
-        } else {
-            None
-        }
+        (2 * b <= i + 2 && i <= 2 * b + 2).then(|| self.row[i - self.place.first_near()])
     }
 }
 

@@ -6,14 +6,13 @@ use lib.Dec.{leb, eqb}
 use lib.Ieee.{Float}
 use lib.ListN.{length, replicate}
 use borrow.Author.Tests.{eq-eqb}
-use Rattle.loops.specs.Front.{length-tab}
 use Rattle.reply.specs.Reply.{reply, reply_if, reply-lent, reply-taken, reply-yes}
 use Rattle.buffers.specs.Buffers.{zero32}
 use Rattle.plc.specs.Autocorr.{celt_autocorr, length-celt_autocorr}
 use Rattle.plc_lag_window.specs.LagWindow.{lag_window, length-lag_window}
-use Rattle.plc_lpc.specs.Lpc.{celt_lpc, length-celt_lpc}
+use Rattle.plc_lpc.specs.Lpc.{celt_lpc}
 use Rattle.plc_fir.specs.Fir.{celt_fir, fir_takes, length-celt_fir}
-use Rattle.plc_whiten.specs.Whiten.{damped, whitener, whiten_lp, tilt}
+use Rattle.plc_whiten.specs.Whiten.{damped, whitener, length-whitener, whiten_lp, tilt}
 
 -- the correlations are taken by the window, and what it leaves of them by the predictor
 module _
@@ -37,10 +36,6 @@ module _
   pub whitening_done : (num : List Float) → num ≡ damped l → num ≡ whitener lp
   unfolding whitener
   whitening_done num e4 = e4 ∙ ap damped (reply-lent _ _ _ e3 takes-five ∙ ap (λ z. celt_lpc z 4) windowed)
-
-length-whitener : (lp : List Float) → length (whitener lp) ≡ 4
-unfolding whitener damped
-length-whitener lp = length-tab _ _ ∙ length-celt_lpc (lag_window (celt_autocorr lp 5)) 4
 
 -- the filter takes 1,024 samples and their whitener
 pub whitener-taken : (x num : List Float) → length x ≡ 1024 → num ≡ whitener x → fir_takes (length num) 4 (length x) ≡ true

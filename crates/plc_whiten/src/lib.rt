@@ -7,7 +7,7 @@ ghost use Rattle.reply.specs.Reply.{replied, reply_if};
 ghost use Rattle.plc_whiten.specs.Whiten.{damped, whitener, whiten_lp};
 
 use history::HALF;
-use plc::autocorr::celt_autocorr;
+use plc::autocorr::{WHITENING, celt_autocorr};
 use plc_fir::celt_fir_inplace;
 use plc_lag_window::lag_window;
 use plc_lpc::celt_lpc;
@@ -30,13 +30,13 @@ fn damp(lpc: &mut [f32])
     }
 }
 
-// The damped predictor of order 4.
-fn whitening(lp: &[f32; HALF]) -> [f32; 4]
+// The damped predictor.
+fn whitening(lp: &[f32; HALF]) -> [f32; WHITENING]
     ensures { result ≡ whitener lp.now }
 {
     let mut ac = celt_autocorr(lp);
     lag_window(&mut ac).unwrap();
-    let mut lpc = [0.0f32; 4];
+    let mut lpc = [0.0f32; WHITENING];
     celt_lpc(&mut lpc, &ac).unwrap();
     damp(&mut lpc);
     lpc
@@ -47,10 +47,8 @@ fn whitening(lp: &[f32; HALF]) -> [f32; 4]
 pub fn whiten(x_lp: &mut [f32]) -> Result<(), Refused>
     ensures { replied result x_lp.new ≡ reply_if (eqb (length x_lp.old) 1024) (whiten_lp x_lp.old) x_lp.old }
 {
-    let Ok(x) = <&[f32; HALF]>::try_from(&x_lp[..]) else {
-        return Err(Refused);
-    };
+    let x = <&[f32; HALF]>::try_from(&x_lp[..]).map_err(|_| Refused)?;
     let num = whitening(x);
-    celt_fir_inplace(x_lp, &num, &[0.0; 4])?;
+    celt_fir_inplace(x_lp, &num, &[0.0; WHITENING])?;
     celt_fir_inplace(x_lp, &[TILT], &[0.0])
 }

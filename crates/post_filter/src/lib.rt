@@ -29,7 +29,7 @@ pub fn filter_fits(f: Filter) -> bool
     (PERIOD_LEAST..=PERIOD_MOST).contains(&f.period) && f.tapset <= TAPSET_MOST
 }
 
-// The tapset's three factors; a tapset above 2 counts as 2.
+// The tapset's three factors; a tapset above 2 counts as 2: total, so that no step that has checked the limits refuses again.
 #[tactic(auto, using(crate::proofs::Laws::comb_last), unfolding(crate::specs::Gains::comb_gains))]
 pub fn comb_gains(tapset: u32) -> [f32; 3]
     ensures { result ≡ comb_gains tapset }

@@ -10,13 +10,12 @@ use lib.Seq.{slice, length-slice, length-take-le, take_at, drop_at}
 use lib.Ieee.{Float}
 use borrow.Author.Tests.{eqb-true, leb-true, eq-eqb, le-leb}
 use Rattle.loops.specs.Part.{put}
-use Rattle.history.proofs.Parts.{slice-take}
+use Rattle.history.proofs.Parts.{TailSized, slice-take}
 use Rattle.fold.proofs.Laws.{fold-yes}
 use Rattle.prefilter.proofs.Laws.{prefilter-yes}
 use Rattle.loops.specs.Logic.{and-true, and_both}
 use Rattle.reply.specs.Reply.{reply, reply_if, reply-lent, reply-yes, reply-taken}
 use Rattle.history.specs.History.{half, overlap, Tail, tail_list, tail_of}
-use Rattle.history.proofs.Parts.{TailSized}
 use Rattle.celt_window.specs.Window.{window}
 use Rattle.post_filter.specs.declared.Filter.{Filter}
 use Rattle.post_filter.specs.Limits.{filter_fits}

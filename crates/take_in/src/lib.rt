@@ -17,6 +17,7 @@ use roll::roll;
 // On the newest 1,024 and the overlap: e's first n samples come in, and the next 120 are folded into the overlap,
 // which is pre-filtered. Refused, with t as lent: t not of 1,144 samples, a frame above 960, e not of the frame and 240 more,
 // a filter outside its limits.
+// n beside e, though e's length says it: it is promised that an e of another length is refused.
 #[tactic(auto, using(std::proofs::lemmas::Bool::Decides::nat_tests), unfolding(reply::specs::Reply::reply_if, crate::specs::TakeIn::tail_takes))]
 pub fn take_in(t: &mut [f32], n: usize, e: &[f32], filter: Filter) -> Result<(), Refused>
     ensures { replied result t.new

@@ -17,4 +17,4 @@ loop-i-preserved c = tab-more _ nan _ _ _ c.loop-i.invariant _ c.comb_at.ensures
 pub returns : goal.returns
 returns c =
     reply-yes _ _ _ (comb-yes _ _ _ c.if-dst-ne-OVERLAP.false c.if-x-ne-TAIL.false (sym c.if-not-filter_fits.ensures))
-    (filtered-all _ _ _ _ _ _ _ _ c.tap_gains-g.ensures c.loop-i.invariant (omega arith) c.if-dst-ne-OVERLAP.false)
+    (filtered-all _ _ _ _ _ _ c.tap_gains-g.ensures c.loop-i.invariant (omega arith) c.if-dst-ne-OVERLAP.false)

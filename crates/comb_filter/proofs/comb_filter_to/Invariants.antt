@@ -5,4 +5,4 @@ use Rattle.comb_filter.proofs.Laws.{sample}
 use Rattle.comb_filter.proofs.comb_filter_to.Given as goal
 
 abbrev pub invariant-loop-i : goal.invariant-loop-i
-invariant-loop-i l = l.dst ≡ front (tab (sample l.x l.f.period l.g.g0 l.g.g1 l.g.g2) l.i) l.initial.dst l.i
+invariant-loop-i l = l.dst ≡ front (tab (sample l.x l.period l.g) l.i) l.initial.dst l.i

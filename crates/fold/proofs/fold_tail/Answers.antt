@@ -1,7 +1,10 @@
 use Rattle.std.proofs.Common.{◌≡◌, ap, ◌∙◌, arith, rules}
 use Rattle.std.specs.Float.{nan}
+use Rattle.std.specs.Array.{IsWholeChunk}
 use Rattle.loops.specs.Front.{tab-none, tab-more}
 use Rattle.reply.specs.Reply.{reply-yes}
+use Rattle.reply.proofs.Convert.{converted}
+use Rattle.history.specs.History.{overlap}
 use Rattle.celt_window.specs.Window.{window}
 use Rattle.fold.specs.Fold.{folded}
 use Rattle.fold.proofs.Laws.{fold-yes, folded-all}
@@ -15,6 +18,6 @@ loop-k-preserved c = tab-more _ nan _ _ _ c.loop-k.invariant _ c.fold_at.ensures
 
 pub returns : goal.returns
 returns c =
-    let x : c.in-Ok.x.now ≡ c.args.x.now = search rules in
-    reply-yes _ _ _ (fold-yes _ _ c.if-over-ne-OVERLAP.false (search rules))
-    (folded-all _ _ _ _ _ _ c.loop-k.invariant (omega arith) c.if-over-ne-OVERLAP.false c.window-w.ensures ∙ ap (folded window) x)
+    let x = converted (λ z. IsWholeChunk c.args.x.now z.now overlap) _ _ _ c.try_from.ensures.1 c.map_err.ensures.cases c.in_ok-x.was in
+    reply-yes _ _ _ (fold-yes _ _ c.if-over-ne-OVERLAP.false x.long)
+    (folded-all _ _ _ _ _ _ c.loop-k.invariant (omega arith) c.if-over-ne-OVERLAP.false c.window-w.ensures ∙ ap (folded window) x.same)

@@ -1,6 +1,8 @@
 use Rattle.std.proofs.Common.{◌≡◌, ◌∙◌, false, true, length, rules}
+use Rattle.std.specs.Array.{IsWholeChunk}
 use borrow.Author.Tests.{le-leb}
 use Rattle.reply.specs.Reply.{reply-taken}
+use Rattle.reply.proofs.Convert.{converted}
 use Rattle.plc_lag_window.specs.LagWindow.{lag_window}
 use Rattle.pitch_fit.proofs.Laws.{fit_is}
 use Rattle.pitch_fit.proofs.pitch_fit.Goals as goal
@@ -17,6 +19,6 @@ returns c =
     let w = c.window in
     let ac = c.celt_autocorr_windowed-ac in
     let b = c.lag_window in
-    let newest = c.in-Ok.ensures.1 in
+    let newest = converted (λ z. IsWholeChunk a.newest.now z.now 1024) _ _ _ c.try_from.ensures.1 c.map_err.ensures.cases c.in_ok-newest.was in
     fit_is a.newest.now _ w.result ac.result b.new.ac a.lpc.now _ _ _ (search rules)
     newest.same w.ensures ac.ensures b.ensures c.celt_lpc.ensures newest.long

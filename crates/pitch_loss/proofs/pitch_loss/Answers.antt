@@ -1,14 +1,25 @@
-use Rattle.std.proofs.Common.{refl, sym, true, false, ◌∙◌}
-use Rattle.reply.specs.Reply.{reply-yes, reply-no}
+use Rattle.std.proofs.Common.{refl, sym, ap, true, false, ◌∙◌, ◌≢◌, length, is_ok}
+use Rattle.std.specs.Array.{IsWholeChunk}
+use Rattle.std.specs.Result.{result_ok}
+use Rattle.std.proofs.lemmas.Option.{MatchOption-at_some, MatchOption-at_none}
+use Rattle.std.proofs.lemmas.Result.{err_from_is_err_and}
+use Rattle.reply.specs.Reply.{reply, reply-yes, reply-no}
 use Rattle.pitch_loss.proofs.Tails.{takes-fits, frame-fits, used-is, takes-size, refuses-size}
 use Rattle.pitch_loss.proofs.pitch_loss.Goals as goal
 
-pub returns-in_default : goal.returns-in_default
-returns-in_default c = let a = c.args in reply-no _ _ _ (refuses-size a.k _ a.pitch.lag a.pitch.filter c.in_default.ensures.cases) refl
+pub returns-in_err-history : goal.returns-in_err-history
+returns-in_err-history c =
+    let a = c.args in
+    let x = a.history.now in
+    let n : length x ≢ 4336 = MatchOption-at_none _ _ (c.ok_or.ensures.ok_part ∙ ap result_ok c.in_err-history.was) c.as_mut_array.ensures.cases in
+    ap (λ t. reply t x) (ap is_ok (err_from_is_err_and _ c.from_residual.ensures.1).1)
+    ∙ reply-no _ _ _ (refuses-size a.k _ a.pitch.lag a.pitch.filter n) refl
 
 pub returns-then-not-takes : goal.returns-then-not-takes
-returns-then-not-takes c = let h = c.in-Some.ensures.cases in
+returns-then-not-takes c =
     let a = c.args in
+    let h : IsWholeChunk a.history.now c.in_ok-history.history.now 4336 =
+    MatchOption-at_some _ _ _ (c.ok_or.ensures.ok_part ∙ ap result_ok c.in_ok-history.was) c.as_mut_array.ensures.cases in
     reply-no _ _ _ (takes-size a.k _ a.pitch.lag a.pitch.filter h.long (sym c.if-not-takes.ensures)) h.same
 
 pub invariant_of-loss : goal.invariant_of-loss
@@ -24,7 +35,8 @@ invariant_of-loss-else-is_stereo c =
 pub returns-then-is_stereo : goal.returns-then-is_stereo
 returns-then-is_stereo c =
     let a = c.args in
-    let h = c.in-Some.ensures.cases in
+    let h : IsWholeChunk a.history.now c.in_ok-history.history.now 4336 =
+    MatchOption-at_some _ _ _ (c.ok_or.ensures.ok_part ∙ ap result_ok c.in_ok-history.was) c.as_mut_array.ensures.cases in
     let f = takes-fits _ _ _ _ (sym c.if-not-takes.ensures) in
     reply-yes _ _ _ (takes-size a.k _ a.pitch.lag a.pitch.filter h.long (sym c.if-not-takes.ensures))
     (used-is a.k true _ a.pitch.lag a.pitch.first a.pitch.filter _ _ _ a.pitch.predictor f.good (sym c.is_stereo.ensures ∙ c.if-is_stereo.true)
@@ -35,7 +47,8 @@ returns-then-is_stereo c =
 pub returns-else-is_stereo : goal.returns-else-is_stereo
 returns-else-is_stereo c =
     let a = c.args in
-    let h = c.in-Some.ensures.cases in
+    let h : IsWholeChunk a.history.now c.in_ok-history.history.now 4336 =
+    MatchOption-at_some _ _ _ (c.ok_or.ensures.ok_part ∙ ap result_ok c.in_ok-history.was) c.as_mut_array.ensures.cases in
     let f = takes-fits _ _ _ _ (sym c.if-not-takes.ensures) in
     reply-yes _ _ _ (takes-size a.k _ a.pitch.lag a.pitch.filter h.long (sym c.if-not-takes.ensures))
     (used-is a.k false _ a.pitch.lag a.pitch.first a.pitch.filter _ _ _ a.pitch.predictor f.good (sym c.is_stereo.ensures ∙ c.if-is_stereo.false)

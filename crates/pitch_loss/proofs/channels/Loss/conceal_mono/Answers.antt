@@ -1,6 +1,7 @@
 use Rattle.std.proofs.Common.{refl, ◌∙◌}
 use Rattle.reply.specs.Reply.{reply-taken}
-use Rattle.pitch_loss.proofs.Tails.{one-takes, one_follows, mono-is}
+use Rattle.history.specs.History.{half}
+use Rattle.pitch_loss.proofs.Tails.{one-takes, one_follows, part-back, mono-is}
 use Rattle.pitch_loss.proofs.channels.Loss.conceal_mono.Goals as goal
 
 pub unwrap-requires : goal.unwrap-requires
@@ -14,7 +15,7 @@ pub returns : goal.returns
 returns c =
     let a = c.args in
     let s = c.args.self in
-    mono-is s.n s.pitch.lag s.pitch.first s.pitch.filter a.history.now s.pitch.predictor c.told-history s.frame _ c.take_at.new.h
+    mono-is s.n s.pitch.lag s.pitch.first s.pitch.filter a.history.now s.pitch.predictor c.told-history s.frame _ _
     (one_follows s.n s.pitch.lag s.pitch.first a.history.now s.pitch.predictor s.frame c.told-history s.lag_low s.lag_high _ c.extrapolate.new.e
     c.coefficients.result _ refl c.coefficients.ensures c.extrapolate.ensures)
-    c.take_at.ensures
+    (part-back half 1144 s.n s.pitch.filter a.history.now _ _ refl c.take_front.ensures)

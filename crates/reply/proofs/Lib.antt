@@ -1,0 +1,2 @@
+-- laws that several proofs cite
+pub mod Convert
