@@ -24,13 +24,6 @@ loop-q-init c =
       pcm = tab-none (value_at a.downsample (a.v.now ∷ []) (a.memory ∷ [])) a.pcm.now;
     })
 
-pub loop-x-init : goal.loop-x-init
-loop-x-init c =
-    let d = c.args.downsample in
-    let n : c.in-Some.q * d ≡ c.in-Some.q * d + 0 = omega arith in
-    c.loop-q.invariant.mem ∙ ap (λ k. memory_to c.args.v.now c.args.memory (k * d)) (sym c.in-Some.ensures.steps.1)
-    ∙ ap (memory_to c.args.v.now c.args.memory) n
-
 pub loop-x-preserved : goal.loop-x-preserved
 loop-x-preserved c =
     let v = c.args.v.now in

@@ -1,6 +1,6 @@
 use Rattle.std.proofs.Common.{◌≡◌, refl, sym, ap, ap₂, ◌∙◌, [], ◌∷◌, ◌++◌, List, ℕ, ◌+◌, ◌-◌, ◌*◌, ◌/◌, ◌<◌, ◌≤◌, length, get_or, drop, arith, length-drop}
 use Rattle.std.proofs.Math.Nat.{zero-mul}
-use Rattle.std.proofs.Math.ListN.{set, length-set}
+use Rattle.std.proofs.Math.ListN.{set}
 use Rattle.std.proofs.lemmas.List.{length_push}
 use Rattle.std.proofs.lemmas.Slice.Zip.{zip_turn, zip_end}
 use Rattle.std.specs.Iterator.Adapters.{zip_first, zip_second}
@@ -36,54 +36,6 @@ loop-q-init c =
 room-both : (d q k n : ℕ) (v part rest : List Float) → drop (k * d) v ≡ part ++ rest → length part ≡ d → q ≡ k → k * d ≤ length v
     → 1 ≤ d → length v / d ≤ n / 2 → 2 * q + 1 < n
 room-both d q k n v part rest cut long e l one r = omega (arith, part-room d k v part rest cut long (n / 2) one l r, e)
-
-room-first : (c : goal.After-pcm_value) → 2 * c.in-Some.q + 1 < length c.args.pcm.now
-room-first c =
-    let s = c.in-Some.ensures.steps in
-    let h = c.loop-q.invariant in
-    let r = c.requires.1 in
-    room-both c.args.downsample c.in-Some.q c.loop-q.q-iterator.count (length c.args.pcm.now) c.args.v.now c.in-Some.part.now _
-    (sym h.rest.0 ∙ s.0.0.1.0) (s.0.0.1.1 ∙ h.size.0) s.1 h.within r.some r.enough
-
-room-second : (c : goal.After-pcm_value-in-loop-q) → 2 * c.in-Some.q + 1 < length c.args.pcm.now
-room-second c =
-    let s = c.in-Some.ensures.steps in
-    let h = c.loop-q.invariant in
-    let r = c.requires.1 in
-    room-both c.args.downsample c.in-Some.q c.loop-q.q-iterator.count (length c.args.pcm.now) c.args.v.now c.in-Some.part.now _
-    (sym h.rest.0 ∙ s.0.0.1.0) (s.0.0.1.1 ∙ h.size.0) s.1 h.within r.some r.enough
-
-pub overflow_mul-pcm : goal.overflow_mul-pcm
-overflow_mul-pcm c = omega (arith, room-first c)
-
-pub offset_bounds-pcm-q : goal.offset_bounds-pcm-q
-offset_bounds-pcm-q c = omega (arith, room-first c)
-
-pub bounds-pcm-q : goal.bounds-pcm-q
-bounds-pcm-q c = omega (arith, room-first c, c.loop-q.auto.pcm)
-
-pub overflow_mul-pcm-in-loop-q : goal.overflow_mul-pcm-in-loop-q
-overflow_mul-pcm-in-loop-q c = omega (arith, room-second c)
-
-pub overflow_add-pcm : goal.overflow_add-pcm
-overflow_add-pcm c = omega (arith, room-second c)
-
-pub offset_bounds-pcm-q-in-loop-q : goal.offset_bounds-pcm-q-in-loop-q
-offset_bounds-pcm-q-in-loop-q c = omega (arith, room-second c)
-
-pub bounds-pcm-q-in-loop-q : goal.bounds-pcm-q-in-loop-q
-bounds-pcm-q-in-loop-q c = omega (arith, room-second c, c.loop-q.auto.pcm, length-set {A = Float})
-
-pub loop-x-init : goal.loop-x-init
-loop-x-init c =
-    let a = c.args in
-    let d = a.downsample in
-    let h = c.loop-q.invariant in
-    let k = sym c.in-Some.ensures.steps.1 in
-    let n : c.in-Some.q * d ≡ c.in-Some.q * d + 0 = omega arith in (
-      h.first ∙ ap (λ k. memory_to a.v.now (get_or a.memories 0 nan) (k * d)) k ∙ ap (memory_to a.v.now (get_or a.memories 0 nan)) n,
-      h.second ∙ ap (λ k. memory_to a.w.now (get_or a.memories 1 nan) (k * d)) k ∙ ap (memory_to a.w.now (get_or a.memories 1 nan)) n,
-    )
 
 pub loop-x-preserved : goal.loop-x-preserved
 loop-x-preserved c =

@@ -1,19 +1,9 @@
-use Rattle.std.proofs.Common.{◌≡◌, ap, ◌∙◌, true, false, ℕ, ◌-◌, ◌*◌, length, rules}
+use Rattle.std.proofs.Common.{◌≡◌, ap, ℕ, ◌-◌, ◌*◌, length, rules}
 use Rattle.std.specs.Array.{IsWholeChunk}
-use Rattle.reply.specs.Reply.{reply-taken}
 use Rattle.reply.proofs.Convert.{converted}
 use Rattle.history.specs.History.{half}
-use Rattle.excitation.proofs.Steps.{fir-fits, whitened_is, repeat-is}
+use Rattle.excitation.proofs.Steps.{whitened_is, repeat-is}
 use Rattle.excitation.proofs.repeat_cycle.Goals as goal
-
-pub returns-in_err-celt_fir_from : goal.returns-in_err-celt_fir_from
-returns-in_err-celt_fir_from c =
-    let v = c.args.voice in
-    let newest = converted (λ z. IsWholeChunk v.newest.now z half) _ _ _ c.try_from.ensures.1 c.map_err.ensures.cases c.in_ok-exc.was in
-    let lpc : length v.lpc.now ≡ 24 = search rules in
-    let no : false ≡ true =
-    reply-taken _ _ _ c.in_err-celt_fir_from.ensures ∙ fir-fits v.lpc.now v.newest.now c.args.mem.now _ lpc c.told-mem newest.long newest.same in
-    cc
 
 pub returns : goal.returns
 returns c =

@@ -18,11 +18,6 @@ returns-in_err-after c =
     let f = takes c.args.m _ _ _ _ _ (sym c.spectrum_takes.ensures ∙ c.if-not-spectrum_takes.false) in
     absurd (shape-takes _ _ _ _ f.0.small (omega (arith, f)) (omega (arith, f)) c.noise_shape.ensures c.in_err-after.was)
 
-pub invariant_of-heard : goal.invariant_of-heard
-invariant_of-heard c =
-    let f = takes c.args.m _ _ _ _ _ (sym c.spectrum_takes.ensures ∙ c.if-not-spectrum_takes.false) in
-    record { small = f.0.small; some = f.0.some; last = f.0.last; every = f.0.every }
-
 pub returns : goal.returns
 returns c =
     let a = c.args in

@@ -1,17 +1,8 @@
-use Rattle.std.proofs.Common.{◌≡◌, ◌∙◌, false, true, length, rules}
+use Rattle.std.proofs.Common.{rules}
 use Rattle.std.specs.Array.{IsWholeChunk}
-use borrow.Author.Tests.{le-leb}
-use Rattle.reply.specs.Reply.{reply-taken}
 use Rattle.reply.proofs.Convert.{converted}
-use Rattle.plc_lag_window.specs.LagWindow.{lag_window}
 use Rattle.pitch_fit.proofs.Laws.{fit_is}
 use Rattle.pitch_fit.proofs.pitch_fit.Goals as goal
-
-pub returns-in_err-lag_window : goal.returns-in_err-lag_window
-returns-in_err-lag_window c =
-    let ac = c.celt_autocorr_windowed-ac.result in
-    let no : false ≡ true = reply-taken _ (lag_window ac) ac c.in_err-lag_window.ensures ∙ le-leb (length ac) 65536 (search rules) in
-    cc
 
 pub returns : goal.returns
 returns c =

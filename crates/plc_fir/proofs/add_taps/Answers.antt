@@ -2,7 +2,7 @@
 use Rattle.std.proofs.Common.{◌≡◌, ap, ◌∙◌, length, get_or, rules}
 use lib.Ieee.{nan, binary32, add}
 use Rattle.loops.specs.Front.{tab, tab-none, tab-more, tab-read, tab-all}
-use Rattle.plc_pad.specs.Pad.{tap, taps_row}
+use Rattle.plc_pad.specs.Pad.{tap}
 use Rattle.plc_fir.proofs.Taps.{tap_on, tap-none, tap-more}
 use Rattle.plc_fir.proofs.add_taps.Goals as goal
 
@@ -30,9 +30,3 @@ loop-j-preserved c = let h2 = c.loop-i in
     tab-all (tap_on a.num.now a.pad.now h.out h.j) nan h.out h2.out h2.i h2.invariant e
     ∙ ap (tab (tap_on a.num.now a.pad.now h.out h.j)) g in
     tap-more a.num.now a.pad.now a.out.now h.out h2.out (length a.out.now) h.j h.invariant t
-
-pub returns : goal.returns
-returns c = let h = c.loop-j in
-    let a = c.args in
-    let e : h.j ≡ length a.num.now = search rules in
-    h.invariant ∙ ap (λ z. tab (taps_row a.num.now a.pad.now a.out.now z) (length a.out.now)) e

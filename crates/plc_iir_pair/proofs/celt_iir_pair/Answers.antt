@@ -5,15 +5,9 @@ use Rattle.std.proofs.lemmas.Bool.Decides.{nat_tests}
 use lib.Ieee.{binary32, of_bits}
 use Rattle.reply.specs.Reply.{reply-yes}
 use Rattle.plc_iir_pair.specs.Pair.{channels}
-use Rattle.plc_pad.proofs.Taps.{remember-taken, remembers_all, taps-part}
+use Rattle.plc_pad.proofs.Taps.{remembers_all, taps-part}
 use Rattle.plc_iir.proofs.Iirs.{filtered-none, filtered-more, filtered-all}
 use Rattle.plc_iir_pair.proofs.celt_iir_pair.Goals as goal
-
-pub unwrap-requires : goal.unwrap-requires
-unwrap-requires c = remember-taken c.args.mem_a.now 1224 (of_bits binary32 0) c.remember.ensures (search rules) (search rules)
-
-pub unwrap-requires-2 : goal.unwrap-requires-2
-unwrap-requires-2 c = remember-taken c.args.mem_b.now 1224 (of_bits binary32 0) c.remember-2.ensures (search rules) (search rules)
 
 pub loop-i-init : goal.loop-i-init
 loop-i-init c = let a = c.args in

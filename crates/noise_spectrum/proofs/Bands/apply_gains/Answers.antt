@@ -5,11 +5,11 @@ use native.Mathlib.Omega.{arith}
 use lib.ListN.{get_or}
 use lib.Ieee.{nan, binary32, add}
 use borrow.Author.Rules.{rules}
-use Rattle.loops.specs.Fold.{fold_range, range_none}
+use Rattle.loops.specs.Fold.{range_none}
 use Rattle.band_gain.specs.Gain.{gain_of}
 use Rattle.noise_shape.specs.Shape.{lo}
 use Rattle.noise_shape.proofs.Calls.{begins, ends}
-use Rattle.noise_spectrum.specs.Spectrum.{gain_of_band, gain_turn}
+use Rattle.noise_spectrum.specs.Spectrum.{gain_of_band}
 use Rattle.noise_spectrum.proofs.Laws.{gains_more}
 use Rattle.noise_spectrum.proofs.Bands.apply_gains.Goals.{After-band_edge-in-loop-i}
 use Rattle.noise_spectrum.proofs.Bands.apply_gains.Goals as goal
@@ -51,10 +51,3 @@ loop-i-preserved c =
     c.band_gain-g.ensures ∙ ap (λ x. gain_of (add binary32 (get_or a.energies.now h.i nan) x)) c.mean_energy.ensures in
     gains_more m a.self.span.start h.i (e - s) s c.band_gain-g.result a.energies.now a.bins.now h.bins c.scale.new.x
     h.invariant (search rules) es (ap₂ ◌-◌ ee es) g c.scale.ensures
-
-pub returns : goal.returns
-returns c =
-    let h = c.loop-i in
-    let a = c.args in
-    let e : h.i ≡ a.self.span.end = omega arith in
-    h.invariant ∙ ap (fold_range (gain_turn a.self.m a.energies.now) a.bins.now a.self.span.start) e
