@@ -89,7 +89,7 @@ fn two_best(xcorr: &[f32], y: &[f32], len: usize) -> Best
     best
 }
 
-// The two best of the places of xcorr, or none where y does not reach len samples further.
+// The two best of the places of xcorr, or none where y does not reach len samples further; it may reach beyond them, so that no length says len.
 #[tactic(auto, unfolding(crate::specs::Best::best_pitches))]
 pub fn find_best_pitch(xcorr: &[f32], y: &[f32], len: usize) -> Option<(usize, usize)>
     ensures { result ≡ best_pitches xcorr.now y.now len (length xcorr.now) }

@@ -1,6 +1,5 @@
 -- Laws of plain variables that the proofs cite.
-use Rattle.std.proofs.Common.{◌≡◌, ap, ◌∙◌, sym, true, false, List, ◌++◌, ℕ, ◌+◌, ◌-◌, ◌≤◌, length, take, drop}
-use Rattle.std.proofs.Common.{arith, length-drop, drop_of_length-le, take-append-drop, append-nil}
+use Rattle.std.proofs.Common.{◌≡◌, ap, ◌∙◌, sym, true, false, List, ◌++◌, ℕ, ◌+◌, ◌-◌, ◌≤◌, length, take, drop, arith, length-drop, drop_of_length-le, take-append-drop, append-nil}
 use Rattle.std.proofs.lemmas.Bool.Decides.{nat_tests}
 use Rattle.std.specs.Float.{Float}
 use Rattle.loops.specs.Pick.{pick_true, pick-false}
