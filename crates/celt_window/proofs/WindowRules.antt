@@ -1,6 +1,7 @@
 -- The window keeps its rules.
-use Rattle.std.specs.Prelude.{◌≡◌, refl, Bool, List, [], ◌∷◌, map, ℕ, zero, suc, ◌+◌, ◌-◌, ◌*◌, ◌^◌, ◌≤◌, ◌<◌, T, leb, ltb, length, get_or}
-use Rattle.std.proofs.Common.{subst, arith, le_of_suc-le-suc, not-suc-le-zero, ltb→lt, leb→le}
+use Rattle.std.specs.Prelude.{◌≡◌, refl, Bool, List, map, ℕ, suc, ◌+◌, ◌-◌, ◌*◌, ◌^◌, ◌≤◌, ◌<◌, T, leb, ltb, length, get_or}
+use Rattle.std.proofs.Common.{subst, arith, ltb→lt, leb→le}
+use Rattle.std.proofs.lemmas.Grind.{get_or_default_zero}
 use Rattle.std.specs.Float.{nan}
 use Rattle.std.specs.Float.Ieee.{of_bits}
 use Rattle.loops.specs.Every.{every, every-at}
@@ -47,15 +48,10 @@ at : (f : ℕ → ℕ → Bool) → T (every f 0 entries) → (i : ℕ) → i < 
 at f t i h = every-at f 0 entries t i (omega (arith, table-length))
 
 -- where the list goes on, what stands past its end does not matter
-default : (xs : List ℕ) (i d : ℕ) → i < length xs → get_or xs i d ≡ get_or xs i 0
-default [] i d h = absurd (not-suc-le-zero h)
-default (x ∷ xs) zero d h = refl
-default (x ∷ xs) (suc i) d h = default xs i d (le_of_suc-le-suc h)
-
 rises-at : (i : ℕ) → i < 119 → get_or entries i 0 < get_or entries (suc i) 0
 unfolding rise
 rises-at i h =
-    subst (λ x. get_or entries i 0 < x) (default entries (suc i) (2 ^ 36 + 1) (omega (arith, table-length)))
+    subst (λ x. get_or entries i 0 < x) (get_or_default_zero entries (suc i) (2 ^ 36 + 1) (omega (arith, table-length)))
     (ltb→lt (get_or entries i 0) (get_or entries (suc i) (2 ^ 36 + 1)) (at (rise entries) rise-table i (omega arith)))
 
 over-at : (i : ℕ) → i < 120 → get_or entries i 0 * get_or entries i 0 + get_or entries (119 - i) 0 * get_or entries (119 - i) 0 ≤ 2 ^ 72 + 2 ^ 49

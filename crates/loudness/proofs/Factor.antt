@@ -14,8 +14,8 @@ use lib.Ieee.Digits.{size_reaches}
 use lib.Ieee.Fits.{round-fits, down_pos}
 use lib.Ieee.Exact.{HasValue}
 use lib.Ieee.Positive.{positive_of_value}
+use Rattle.std.proofs.lemmas.Bool.{cases_lt}
 use Rattle.buffers.specs.Buffers.{one32}
-use Rattle.float_bits.proofs.Laws.{here_or_on}
 use Rattle.float_narrow.specs.Narrow.{narrow}
 use Rattle.float_root.specs.Root.{sqrt_of}
 use Rattle.float_root.proofs.Nearest.{RootWithin, sqrt-within}
@@ -35,7 +35,7 @@ narrowed E w X L c l h k n = record {
 
 -- a square root keeps the order
 root-le : (x y : ℕ) → x * x ≤ y * y → x ≤ y
-root-le x y h = elim (here_or_on y x) [
+root-le x y h = elim (cases_lt y x) [
   | inl g ↦ let z : ⊥ = omega (arith, mul-le-mul g g) in absurd z
   | inr g ↦ g
 ]

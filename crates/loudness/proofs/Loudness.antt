@@ -12,12 +12,12 @@ use lib.Pow.{pow_pos}
 use lib.Signed.{non_neg, nat_abs-le}
 use lib.Ieee.{Float, nan, binary32, binary64, of_int, of_bits, mul}
 use lib.Ieee.Exact.{HasValue}
+use Rattle.std.proofs.lemmas.Bool.{cases_lt}
 use Rattle.loops.specs.Front.{tab, length-tab, get_or-tab, map-tab}
 use Rattle.loops.specs.Sum.{sum_to, sum_same}
 use Rattle.buffers.specs.Buffers.{one32, times}
 use Rattle.float_bits.specs.Words.{noise_step, noise_value}
 use Rattle.float_bits.specs.Noise.{noise_mag, noise_exact}
-use Rattle.float_bits.proofs.Laws.{here_or_on}
 use Rattle.float_near.specs.Near.{Near}
 use Rattle.draw.specs.Draw.{draws, draw-word}
 use Rattle.draw.proofs.Draws.{draws-more}
@@ -109,9 +109,9 @@ some_or_none : (a : ℕ → ℕ) (n : ℕ) → ((i : ℕ) × (i < n) × (1 ≤ a
 some_or_none a zero = inr (λ i h. let z : ⊥ = omega arith in absurd z)
 some_or_none a (suc n) = elim (some_or_none a n) [
   | inl h ↦ inl (h.0, omega (arith, h.1), h.2)
-  | inr z ↦ elim (here_or_on 0 (a n)) [
+  | inr z ↦ elim (cases_lt 0 (a n)) [
     | inl l ↦ inl (n, omega arith, l)
-    | inr l ↦ inr (λ i h. elim (here_or_on i n) [
+    | inr l ↦ inr (λ i h. elim (cases_lt i n) [
       | inl k ↦ z i k
       | inr k ↦ let e : i ≡ n = omega arith in ap a e ∙ omega arith
     ])
@@ -121,7 +121,7 @@ some_or_none a (suc n) = elim (some_or_none a n) [
 some-square : (a : ℕ → ℕ) (n i : ℕ) → i < n → 1 ≤ a i → 1 ≤ squares a n
 unfolding squares
 some-square a zero i h l = let z : ⊥ = omega arith in absurd z
-some-square a (suc n) i h l = elim (here_or_on i n) [
+some-square a (suc n) i h l = elim (cases_lt i n) [
   | inl k ↦ omega (arith, some-square a n i k l)
   | inr k ↦
       let e : i ≡ n = omega arith in
@@ -165,7 +165,7 @@ module _ (n seed : ℕ) where
   none_is i h e = value-at i h ∙ zero-value (step seed i) e
 
   heard_some : Heard (noise_band n seed) → 1 ≤ squares (magnitude seed) n
-  heard_some (i, h, z) = elim (here_or_on 0 (magnitude seed i)) [
+  heard_some (i, h, z) = elim (cases_lt 0 (magnitude seed i)) [
     | inl l ↦ some-square (magnitude seed) n i (at i h) l
     | inr l ↦ absurd (z (inl (none_is i (at i h) (omega arith))))
   ]

@@ -13,9 +13,9 @@ use lib.Ieee.{Float, nan, inf, fin, binary32, unlike, down, round}
 use lib.Ieee.Fits.{down_pos}
 use lib.Ieee.Exact.{HasValue}
 use lib.Ieee.Scale.{grid}
+use Rattle.std.proofs.lemmas.Bool.{cases_lt}
 use Rattle.loops.specs.Front.{tab, length-tab, get_or-tab}
 use Rattle.buffers.specs.Buffers.{times}
-use Rattle.float_bits.proofs.Laws.{here_or_on}
 use Rattle.float_near.specs.Near.{Near}
 use Rattle.float_near.specs.Rounded.{Rounded}
 use Rattle.float_near.proofs.Half.{holds-above}
@@ -82,7 +82,7 @@ module _ (v g : Float) (s : Bool) (a G : ℕ) (few : a ≤ 2048) (is : HasValue 
       in-range = le_trans (mul-le-mul few under) (lit≤ tt)
 
   pub sample : Sample (times g v) (a * G)
-  sample = elim (here_or_on 0 a) [
+  sample = elim (cases_lt 0 a) [
     | inl h ↦ some h
     | inr h ↦ none (omega arith)
   ]

@@ -1,15 +1,10 @@
 -- The first k places of an array of n like values: lent, and come back as y.
-use mathlib.Core.Path.{◌≡◌, refl, ap, ◌∙◌, sym}
-use mathlib.Core.List.{List, ◌∷◌, ◌++◌}
-use Prim.Native.Nat.{ℕ, zero, suc, ◌≤◌}
+use mathlib.Core.Path.{◌≡◌, ◌∙◌, sym}
+use mathlib.Core.List.{List, ◌++◌}
+use Prim.Native.Nat.{ℕ, ◌≤◌}
 use native.Mathlib.Omega.{arith}
 use lib.ListN.{length, take, drop, replicate, length-replicate}
 use lib.Seq.{length-take-le, take_at}
-
-pub lent-values : {A : Type 0} (v : A) (k n : ℕ) → k ≤ n → take k (replicate n v) ≡ replicate k v
-lent-values v zero n h = refl
-lent-values v (suc k) zero h = let z : ⊥ = omega arith in absurd z
-lent-values v (suc k) (suc n) h = ap (λ z. v ∷ z) (lent-values v k n (omega arith))
 
 module _ {A : Type 0} (v : A) (k n : ℕ) (h : k ≤ n) where
   pub lent-count : k ≡ length (take k (replicate n v))

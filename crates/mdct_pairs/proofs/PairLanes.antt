@@ -1,12 +1,13 @@
 -- Four pairs of sums side by side: their places in the pairs of cosines, and their sums, input by input.
 use mathlib.Core.Path.{◌≡◌, ap, ap₂, ◌∙◌, sym}
 use mathlib.Core.List.{List}
-use mathlib.Core.Logic.{⊎_elim}
+use mathlib.Core.Logic.{inl, inr}
 use Prim.Native.Nat.{ℕ, ◌+◌, ◌*◌, ◌/◌, ◌%◌, ◌≤◌, ◌<◌}
 use native.Mathlib.Omega.{arith}
 use native.Mathlib.Nat.{mod-add-mod, mod-lt, mod-eq_of_lt, mul_comm, mul_assoc, div-add-mod', add-mul-mod_self_right}
 use lib.ListN.{length, get_or}
 use lib.Ieee.{Float, nan, binary64, of_bits, add, mul}
+use Rattle.std.proofs.lemmas.Bool.{cases_lt}
 use Rattle.loops.specs.Front.{tab, tab-same, get_or-tab}
 use Rattle.loops.specs.Sum.{sum_to, sum_more}
 use Rattle.cosine_circle.proofs.Sizes.{Size, even, at_least, at_most}
@@ -14,7 +15,6 @@ use Rattle.mdct.specs.Imdct.{imdct_term}
 use Rattle.mdct.proofs.Angles.{place, place-less, place_none, place-more}
 use Rattle.mdct.proofs.Lanes.{places}
 use Rattle.cosine_pairs.specs.Pairs.{pair_at, pairs_of}
-use Rattle.cosine_pairs.proofs.Turns.{either}
 use Rattle.mdct_pairs.specs.Inputs.{input_at, inputs_of}
 use Rattle.mdct_pairs.proofs.Steps.{near-term, far-term}
 
@@ -99,14 +99,14 @@ module _ (n t : ℕ) (z : Size n) (room : 2 * t + 8 ≤ n) where
           let r : get_or (tab (pair_at n) (12 * n)) (get_or at j 0 + e % 2) nan ≡ pair_at n (get_or at j 0 + e % 2) =
           get_or-tab (pair_at n) (12 * n) (get_or at j 0 + e % 2) nan (omega (arith, at-is j jh, b j jh)) in
           ap₂ (mul binary64) s r
-          ∙ ⊎_elim
-          (λ m.
-          let u : e % 2 * n ≡ 0 * n = ap (λ y. y * n) (omega arith) in
-          near-term n z (t + j) k (p j) (q j jh) xs _ _ (omega arith) (omega (arith, at-is j jh)) ∙ ap (λ y. imdct_term n xs y k) (omega arith))
-          (λ m.
-          let u : e % 2 * n ≡ 1 * n = ap (λ y. y * n) (omega arith) in
-          far-term n z (t + j) k (p j) (q j jh) xs _ _ (omega arith) (omega (arith, at-is j jh)) ∙ ap (λ y. imdct_term n xs y k) (omega arith))
-          (either (e % 2) 0)
+          ∙ elim (cases_lt 0 (e % 2)) [
+            | inr m ↦
+                let u : e % 2 * n ≡ 0 * n = ap (λ y. y * n) (omega arith) in
+                near-term n z (t + j) k (p j) (q j jh) xs _ _ (omega arith) (omega (arith, at-is j jh)) ∙ ap (λ y. imdct_term n xs y k) (omega arith)
+            | inl m ↦
+                let u : e % 2 * n ≡ 1 * n = ap (λ y. y * n) (omega arith) in
+                far-term n z (t + j) k (p j) (q j jh) xs _ _ (omega arith) (omega (arith, at-is j jh)) ∙ ap (λ y. imdct_term n xs y k) (omega arith)
+          ]
 
       pub sums-more : (i : ℕ) (inputs pairs acc to : List Float) → i ≡ 2 * k → inputs ≡ inputs_of xs → pairs ≡ pairs_of n
           → acc ≡ tab (sums n xs t k) 8

@@ -1,20 +1,21 @@
 -- The cosines that a pair of outputs reads, as steps round the circle, a quarter of it apart.
 use mathlib.Core.Path.{◌≡◌, ap, ap₂, ◌∙◌, sym}
 use mathlib.Core.List.{List}
-use mathlib.Core.Logic.{⊎_elim}
+use mathlib.Core.Logic.{inl, inr}
 use Prim.Native.Nat.{ℕ, ◌+◌, ◌*◌, ◌/◌, ◌%◌}
 use native.Mathlib.Omega.{arith}
 use native.Mathlib.Nat.{mul_comm, mul_assoc, mul-add, div-add-mod', mod-add-mod, add-mul-mod_self_left}
 use lib.ListN.{get_or}
 use lib.Ieee.{Float, nan, binary64, mul, neg}
 use borrow.Author.Tests.{eq-eqb, ne_eqb}
+use Rattle.std.proofs.lemmas.Bool.{cases_lt}
 use Rattle.float_sign.proofs.Sign.{mul-both}
 use Rattle.cosine_circle.specs.Circle.{cos_at}
 use Rattle.cosine_circle.proofs.Sizes.{Size, whole}
 use Rattle.mdct.specs.Imdct.{angle, imdct_term}
 use Rattle.mdct.proofs.Angles.{half_steps, place, on_circle, odd-parts}
 use Rattle.cosine_pairs.specs.Pairs.{step_cos, pair_at}
-use Rattle.cosine_pairs.proofs.Turns.{cos_half, either}
+use Rattle.cosine_pairs.proofs.Turns.{cos_half}
 use Rattle.mdct_pairs.specs.Inputs.{input_at}
 
 plain : (xs : List Float) (i k : ℕ) → (i % 4 ≡ 3 → ⊥) → i / 2 ≡ k → input_at xs i ≡ get_or xs k nan
@@ -114,13 +115,13 @@ module _ (n : ℕ) (z : Size n) where
         far-term i j f g =
             let s : j / 2 + j % 2 * n ≡ p + n = placed (j / 2) (j % 2) 1 (omega arith) (omega arith) ∙ omega arith in
             ap (λ y. mul binary64 (input_at xs i) (step_cos n y)) s
-            ∙ ⊎_elim
-            (λ h.
-            let q : i ≡ 1 + 4 * (k / 2) = omega arith in
-            ap₂ (mul binary64) (plain xs i k (omega arith) (omega arith)) (far-even (omega arith)))
-            (λ h.
-            let q : i ≡ 3 + 4 * (k / 2) = omega arith in
-            ap (λ y. mul binary64 y (step_cos n (p + n))) (signed xs i k (omega arith) (omega arith))
-            ∙ mul-both binary64 (get_or xs k nan) (step_cos n (p + n))
-            ∙ ap (mul binary64 (get_or xs k nan)) (far-odd (omega arith)))
-            (either (k % 2) 0)
+            ∙ elim (cases_lt 0 (k % 2)) [
+              | inr h ↦
+                  let q : i ≡ 1 + 4 * (k / 2) = omega arith in
+                  ap₂ (mul binary64) (plain xs i k (omega arith) (omega arith)) (far-even (omega arith))
+              | inl h ↦
+                  let q : i ≡ 3 + 4 * (k / 2) = omega arith in
+                  ap (λ y. mul binary64 y (step_cos n (p + n))) (signed xs i k (omega arith) (omega arith))
+                  ∙ mul-both binary64 (get_or xs k nan) (step_cos n (p + n))
+                  ∙ ap (mul binary64 (get_or xs k nan)) (far-odd (omega arith))
+            ]

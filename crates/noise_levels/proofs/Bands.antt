@@ -10,12 +10,12 @@ use lib.Dec.{leb}
 use lib.ListN.{length, take, drop}
 use lib.Seq.{take_at, take-take}
 use borrow.Author.Tests.{leb-true}
+use Rattle.std.proofs.lemmas.Bool.{cases_lt}
 use Rattle.std.proofs.lemmas.List.{drop-take}
 use lib.Ieee.{Float}
 use Rattle.loops.specs.Fold.{fold_to, fold_range}
 use Rattle.loops.specs.Below.{below, below_at}
 use Rattle.loops.specs.Part.{put, take_put, drop-put}
-use Rattle.float_bits.proofs.Laws.{here_or_on}
 use Rattle.draw.specs.Draw.{draws}
 use Rattle.custom_mode.specs.Mode.{bands, last_edge, edge, edges}
 use Rattle.noise_shape.specs.Shape.{lo, width, band_noise, length-band_noise, Shape, noise_turn, noise_shape, edge-up, band_in, turn, seed_after, size-after}
@@ -75,7 +75,7 @@ module _ (m start : ℕ) (a : Shape) (big : m * last_edge ≤ length a.bins) whe
       → band_of m (start + j) (fold_to (turn m start) a n).bins ≡ band_noise (width m (start + j)) (draws (lo m (start + j) - lo m start) a.seed)
   unfolding fold_to noise_turn
   drawn_band zero j h l = let z : ⊥ = omega arith in absurd z
-  drawn_band (suc n) j h l = elim (here_or_on j n) [
+  drawn_band (suc n) j h l = elim (cases_lt j n) [
     | inl k ↦ old_band n (omega arith) j k ∙ drawn_band n j (omega arith) k
     | inr k ↦
         let e : n ≡ j = omega arith in

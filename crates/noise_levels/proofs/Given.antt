@@ -8,10 +8,10 @@ use native.Mathlib.Omega.{arith}
 use lib.ListN.{length, get_or, take, drop, replicate, get_or-append, get_or-map, length-drop, length-map, length-replicate}
 use lib.Seq.{length-take-le, get_or-append-add, get_or-take, get_or-drop}
 use lib.Ieee.{Float, nan, mul}
+use Rattle.std.proofs.lemmas.Bool.{cases_lt}
 use Rattle.loops.specs.Fold.{fold_to, fold_range, fold-holds}
 use Rattle.loops.specs.Part.{put}
 use Rattle.buffers.specs.Buffers.{zero32, times}
-use Rattle.float_bits.proofs.Laws.{here_or_on}
 use Rattle.custom_mode.specs.Mode.{short_block, bands, last_edge}
 use Rattle.noise_shape.specs.Shape.{lo, width, noise_shape, edge-up, band_in, length-noise_shape}
 use Rattle.noise_levels.proofs.Bands.{band_ends}
@@ -98,7 +98,7 @@ module _ (m : ℕ) (energies : List Float) where
         → get_or (fold_to turns b n) j nan ≡ times (gain_of_band energies (start + p)) (get_or b j nan)
     unfolding fold_to
     gained-at zero p j h l lo-j hi-j = let z : ⊥ = omega arith in absurd z
-    gained-at (suc n) p j h l lo-j hi-j = elim (here_or_on p n) [
+    gained-at (suc n) p j h l lo-j hi-j = elim (cases_lt p n) [
       | inl k ↦
           let e : start + p + 1 + (n - p - 1) ≡ start + n = omega arith in
           let u : lo m (start + p + 1) ≤ lo m (start + n) =

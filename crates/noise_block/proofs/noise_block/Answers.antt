@@ -3,10 +3,11 @@ use mathlib.Core.Path.{◌≡◌, refl, ap, ap₂, ◌∙◌, sym}
 use Prim.Native.Nat.{◌+◌, ◌*◌, ◌/◌}
 use native.Mathlib.Omega.{arith}
 use lib.ListN.{length}
+use Rattle.std.proofs.lemmas.List.{take-replicate}
 use Rattle.reply.specs.Reply.{reply-yes, reply-no}
 use Rattle.buffers.specs.Buffers.{zero32}
 use Rattle.cosine_circle.specs.Circle.{is_frame_size}
-use Rattle.mdct_pairs.proofs.Lent.{lent-values, lent-count, back-size}
+use Rattle.mdct_pairs.proofs.Lent.{lent-count, back-size}
 use Rattle.mdct_mirrored.proofs.Calls.{mirrored-taken}
 use Rattle.noise_spectrum.proofs.Calls.{spectrum-left, spectrum-taken}
 use Rattle.loops.specs.Front.{tab}
@@ -59,7 +60,7 @@ returns c =
     let p = c.noise_spectrum in
     let i = c.imdct_mirrored_f32 in
     let s = spectrum-left m _ _ _ a.seed a.energies.now _ t.span t.all (sym (lent-count zero32 n 960 t.bins)) p.ensures c.in_ok-after.was
-    (lent-values zero32 n 960 t.bins) in
+    (take-replicate n 960 zero32 t.bins) in
     let l : length i.new.out ≡ 2 * n = back-size zero32 (2 * n) 1920 t.outputs i.new.out i.auto.out in
     let half : length i.new.out / 2 ≡ n = omega arith in
     let w = c.window_outputs.ensures ∙ ap (λ z. tab (windowed z i.new.out) (z + 120)) half in
