@@ -15,14 +15,6 @@ returns-then-not-settings_pass c =
       | inr h ↦ takes-not-whole c.args.k _ h.1
     ]) refl
 
-pub noise_channel-one-requires : goal.noise_channel-one-requires
-noise_channel-one-requires c =
-    (good c.args.k _ c.settings_pass.ensures c.if-not-settings_pass.false, c.split_at_mut-first.ensures.front_len)
-
-pub noise_channel-requires : goal.noise_channel-requires
-noise_channel-requires c =
-    (good c.args.k _ c.settings_pass.ensures c.if-not-settings_pass.false, search rules)
-
 pub returns-then-is_stereo : goal.returns-then-is_stereo
 returns-then-is_stereo c =
     let n = c.if-history-ne-WHOLE.false in
