@@ -2,7 +2,7 @@
 
 #![tactic(auto)]
 
-ghost use Rattle.std.specs.Prelude.{◌≡◌, ◌≤◌};
+ghost use Rattle.std.specs.Prelude.{◌≡◌, ◌*◌, ◌≤◌};
 ghost use Rattle.cosine_table.specs.Cosines.{cosines};
 ghost use Rattle.cosine_circle.specs.Circle.{cos_at, is_frame_size, circle_of};
 
@@ -22,11 +22,12 @@ pub fn is_frame_size(n: usize) -> bool
     matches!(n, 120 | 240 | 480 | 960)
 }
 
-// The cosine of j parts of a circle of 7,680. One function of this crate reads the table, and says once what it is.
+// The cosine of j parts of a circle of 7,680. It asks that c is the table: no other function of this crate reads one, so no struct
+// keeps it.
 #[tactic(auto, using(crate::proofs::Quadrants::first, crate::proofs::Quadrants::second, crate::proofs::Quadrants::third, crate::proofs::Quadrants::fourth))]
 fn cos_at(c: &[f64; QUARTER + 1], j: usize) -> f64
     requires c_value { c.now ≡ cosines }
-    requires j_bound { j ≤ 7680 }
+    requires j_bound { j ≤ 4 * QUARTER }
     ensures { result ≡ cos_at j }
 {
     if j <= QUARTER {
@@ -41,7 +42,7 @@ fn cos_at(c: &[f64; QUARTER + 1], j: usize) -> f64
 }
 
 // The cosines of a circle of 4 n steps, each at half a step more than a whole one. Of a size that no frame has, none: it is
-// total, and its caller has asked for the size.
+// total, and its caller has asked for the size. The longest circle's room, of which 4 n are used: there is no heap.
 #[tactic(auto, using(crate::proofs::Circles::known, crate::proofs::Circles::place_known))]
 pub fn circle(n: usize) -> [f64; STEPS]
     ensures { result ≡ circle_of n }

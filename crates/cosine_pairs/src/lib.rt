@@ -13,6 +13,12 @@ use cosine_circle::{FRAME_MOST, is_frame_size};
 use cosine_table::{QUARTER, cosines};
 use reply::Refused;
 
+// How many quarters of the circle the pairs go over: a circle and a half.
+const QUARTERS: usize = 6;
+
+// How many places the pairs take for each of a frame's n: two in each quarter.
+pub const PLACES: usize = 2 * QUARTERS;
+
 // The table of cosines, and the frame size whose pairs are read from it.
 #[derive(Clone, Copy)]
 struct Table<'a> {
@@ -27,7 +33,7 @@ impl Table<'_> {
     // `quarter`: found from 1,920 r + j anew for each, as by `cosine_circle`, it makes the sums of a frame of 120 a fifth slower.
     #[tactic(auto, using(crate::proofs::Pairs::corner_first, crate::proofs::Pairs::corner_second, crate::proofs::Pairs::corner_third, crate::proofs::Pairs::corner_fourth))]
     fn corner(self, j: usize, r: usize) -> f64
-        requires { (0 < j) × (j < 1920) }
+        requires { (0 < j) × (j < QUARTER) }
         ensures { result ≡ cos_at ((1920 * r + j) % 7680) }
     {
         match r % 4 {
@@ -41,7 +47,7 @@ impl Table<'_> {
     // The n pairs of quarter r of the circle.
     #[tactic(auto, using(crate::proofs::Pairs::in_quarter, crate::proofs::Pairs::in_step))]
     fn quarter(self, r: usize, part: &mut [f64])
-        requires { (r < 6) × (length part.old ≡ 2 * self.n) }
+        requires { (r < QUARTERS) × (length part.old ≡ 2 * self.n) }
         ensures { part.new ≡ tab (λ j. pair_at self.entry.n (2 * (self.entry.n * r) + j)) (2 * self.entry.n) }
     {
         let s = FRAME_MOST / self.n;
@@ -60,12 +66,12 @@ impl Table<'_> {
 pub fn fill_pairs(n: usize, pairs: &mut [f64]) -> Result<(), Refused>
     ensures { replied result pairs.new ≡ pairs_reply n pairs.old }
 {
-    if !is_frame_size(n) || pairs.len() != 12 * n {
+    if !is_frame_size(n) || pairs.len() != PLACES * n {
         return Err(Refused);
     }
     let table = Table { c: &cosines(), n };
     // By number, as the pairs of a quarter.
-    for r in 0..6 {
+    for r in 0..QUARTERS {
         let first = 2 * (n * r);
         table.quarter(r, &mut pairs[first..first + 2 * n]);
     }

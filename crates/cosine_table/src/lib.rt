@@ -5,8 +5,8 @@
 ghost use Rattle.std.specs.Prelude.{◌≡◌};
 ghost use Rattle.cosine_table.specs.Cosines.{cosines};
 
-// How many parts of the circle a quarter has: an entry at each, and one at its end. By number: twice the
-// longest frame, as `cosine_circle` reads it, would be the word of a mode, and a table of cosines names none.
+// How many parts of the circle a quarter has: an entry at each, and one at its end. By number, though it is twice the longest
+// frame: a table of cosines knows no frames.
 pub const QUARTER: usize = 1_920;
 
 const COSINES: [f64; QUARTER + 1] = [

@@ -13,6 +13,7 @@ use custom_mode::standard::{ENERGIES, MAX_BANDS};
 // which a pitch is no longer repeated, `FIRST_NOISE` of state, though the same number.
 const LATE: u32 = 5;
 
+// How much an energy falls at a loss: more at the first one.
 #[tactic(auto, unfolding(crate::specs::Energies::energy_drop))]
 fn energy_drop(count: u32) -> f32
     ensures { result ≡ energy_drop count }
@@ -21,7 +22,8 @@ fn energy_drop(count: u32) -> f32
 }
 
 // The energy at place i, lower by `by` where it drops. By place: document 01's list is flat.
-// Channels, start and end apart: two functions take them, and a struct for that would be no plainer.
+// Channels, start and end apart, as `lower_energies` takes them: its promise counts by three numbers, and `Settings`, which has
+// them all, stands above this crate.
 #[tactic(auto, unfolding(crate::specs::Energies::drops))]
 fn dropped(energy: f32, i: usize, channels: usize, start: usize, end: usize, by: f32) -> f32
     ensures { result ≡ cond (drops channels start end i) (sub binary32 energy by) energy }

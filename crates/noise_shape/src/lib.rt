@@ -26,11 +26,11 @@ fn band_noise(part: &mut [f32], seed: u32) -> u32
 
 // Every band from start to the last is drawn, though the end band may be lower: the seed moves on by all of them.
 // `noise_spectrum` walks over the bands in the same way: one walk for both would be public, and ask of its caller that its
-// closure may be called, where no public function asks anything. Each parameter is one of the call's, and none has another use: a
-// struct of them would be made and taken apart once.
+// closure may be called, where no public function asks anything. Each parameter is handed on as it
+// came: a struct of them would be made and taken apart once.
 #[tactic(auto, using(crate::proofs::Calls::ends))]
 fn shape_each(bins: &mut [f32], m: usize, start: usize, seed: u32) -> u32
-    requires { (m ≤ 8) × (start ≤ bands) × (m * last_edge ≤ length bins.old) }
+    requires { (m ≤ FACTOR_MOST) × (start ≤ bands) × (m * last_edge ≤ length bins.old) }
     ensures { (result ≡ (noise_shape m start seed bins.old).seed) × (bins.new ≡ (noise_shape m start seed bins.old).bins) }
 {
     let mut s = seed;

@@ -33,7 +33,7 @@ impl Span {
     }
 }
 
-// The bands of a span at a block factor.
+// The bands of a span at a block factor. The most it is stands by number: a ghost field has no constant in its scope.
 #[derive(Clone, Copy)]
 struct Bands {
     m: usize,
