@@ -47,8 +47,7 @@ fn answer_iir(wire: &mut Wire) -> io::Result<()> {
 pub(crate) fn answer(wire: &mut Wire, op: u32) -> io::Result<bool> {
     match op {
         201 => wire.answer(|x: [f32; HALF]| celt_autocorr(&x))?,
-        202 => wire
-            .answer_two(|x: [f32; HALF], w: [f32; OVERLAP]| celt_autocorr_windowed(&x, &w))?,
+        202 => wire.answer_two(|x: [f32; HALF], w: [f32; OVERLAP]| celt_autocorr_windowed(&x, &w))?,
         203 => answer_lpc::<ORDER, CORRELATIONS>(wire)?,
         // The whitening's order, which is `plc_whiten`'s own.
         204 => answer_lpc::<4, 5>(wire)?,

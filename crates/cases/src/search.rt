@@ -34,7 +34,7 @@ fn answer_downsampled(wire: &mut Wire, two: bool) -> io::Result<()> {
     let h = read_samples(wire, two)?;
     let mut low = [0.0f32; HALF];
     let second = two.then_some(&h[CHANNEL..SECOND_END]);
-    pitch_downsample(&h[0..SAMPLES], second, &mut low).unwrap();
+    pitch_downsample(&h[..SAMPLES], second, &mut low).unwrap();
     wire.write(low)
 }
 

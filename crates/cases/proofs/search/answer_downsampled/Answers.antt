@@ -12,6 +12,6 @@ unwrap-requires c =
     let h = c.in_ok-h.h in
     let l : length h ≡ 4336 = search rules in
     channels_take c.args.two _ _ _ (replicate 1024 zero32) _ _ c.then_some-second.ensures
-    (length-take-le 2048 (drop 0 h) (omega (arith, length-drop 0 h)))
+    (length-take-le 2048 h (omega (arith, l)))
     (length-take-le 2048 (drop 2168 h) (omega (arith, length-drop 2168 h)))
     refl c.pitch_downsample.ensures

@@ -23,5 +23,5 @@ loop-done-preserved g c =
     let room = length c.loop-done.buf - done in
     let before = c.loop-done.invariant in
     let bound = c.in_ok-more.ensures.bound in
-    let same = joined done room more c.loop-done.buf c.read_some.new.part (omega arith) bound.0 in
+    let same = joined done room more c.loop-done.buf c.read.new.buf (omega arith) bound.0 in
     (search rules, search rules, subst (Consumes _ _) same (Consumes-trans _ _ _ _ _ before.2 c.in_ok-more.ensures.bytes.0))
