@@ -4,7 +4,7 @@ use band_quant::renormalise_vector;
 use draw::celt_lcg_rand;
 use std::io;
 
-// The bins of the widest band, the last of the longest frame.
+// The bins of the widest band, the last of the longest frame: 8 times 22.
 const WIDEST: usize = 176;
 
 // A list for the widest band, as the case has it, of which the first bins are used: there is no heap.

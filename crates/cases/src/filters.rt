@@ -3,7 +3,7 @@ ghost use Rattle.std.specs.Prelude.{◌≡◌, ◌+◌, ◌≤◌};
 
 use crate::streams::Wire;
 use history::{HALF, OVERLAP};
-use plc::autocorr::{celt_autocorr, celt_autocorr_windowed};
+use plc::autocorr::{WHITENING, celt_autocorr, celt_autocorr_windowed};
 use plc_fir::celt_fir_inplace;
 use plc_iir::{LONGEST, celt_iir_inplace};
 use plc_lpc::celt_lpc;
@@ -13,8 +13,11 @@ use std::io;
 // A predictor has one coefficient less than it has correlations.
 const CORRELATIONS: usize = ORDER + 1;
 
-// The predictor of an order from one correlation more. Beside a frame's cosine sum: what a step asks of its sizes is required
-// here, and one function for both would have to require it of any step.
+const WHITENED: usize = WHITENING + 1;
+
+// The predictor of an order from one correlation more. Both sizes: no array length is computed from a const parameter.
+// Beside a frame's cosine sum: what a step asks of its sizes is required here, and one function for both would have to require it of
+// any step.
 fn answer_lpc<const TAPS: usize, const LAGS: usize>(wire: &mut Wire) -> io::Result<()>
     requires { (TAPS ≤ 24) × (LAGS ≡ TAPS + 1) }
 {
@@ -49,10 +52,10 @@ pub(crate) fn answer(wire: &mut Wire, op: u32) -> io::Result<bool> {
         201 => wire.answer(|x: [f32; HALF]| celt_autocorr(&x))?,
         202 => wire.answer_two(|x: [f32; HALF], w: [f32; OVERLAP]| celt_autocorr_windowed(&x, &w))?,
         203 => answer_lpc::<ORDER, CORRELATIONS>(wire)?,
-        // The whitening's order, which is `plc_whiten`'s own.
-        204 => answer_lpc::<4, 5>(wire)?,
+        204 => answer_lpc::<WHITENING, WHITENED>(wire)?,
         205 => answer_fir::<ORDER>(wire)?,
-        206 => answer_fir::<4>(wire)?,
+        206 => answer_fir::<WHITENING>(wire)?,
+        // the whitening's other filter, of one tap
         207 => answer_fir::<1>(wire)?,
         208 => answer_iir(wire)?,
         _ => return Ok(false),

@@ -9,6 +9,7 @@ use std::io;
 // Three words ahead of the floats: lm, channels and downsample. A refused frame keeps its memories. Lists for the longest frame,
 // as the case has them, and PCM for two such channels: there is no heap.
 fn answer_frame(wire: &mut Wire) -> io::Result<()> {
+    // The `min` cuts nothing, as an lm above 3 counts as 3: it tells the check so.
     let n = FRAME_MOST.min(frame_size(wire.read()?));
     let channels: u32 = wire.read()?;
     let downsample = wire.read()?;

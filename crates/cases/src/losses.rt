@@ -9,7 +9,7 @@ use std::io;
 // The longest PCM buffer. Each case has a buffer of this length, of which a call is lent the front: there is no heap.
 const PCM: usize = 2000;
 
-// The most calls of a run.
+// The most calls of a run: a list of so many lengths, as the case has it, of which the first n are used.
 const CALLS: usize = 16;
 
 // A record of which the first n bytes come; the rest is 0.

@@ -22,7 +22,7 @@ use streams::Wire;
 
 // One case; false where there is no more to answer. Each module has a hundred of the protocol's numbers, and its own `answer`
 // says whether it knows the one: a match on numbers, since numbers are what comes, and a bool, since known or not is all that is
-// asked. Of one shape, they differ in nothing but their numbers and steps.
+// asked. Of one shape, and apart: one match of all numbers would be longer than a function may be.
 fn answer(wire: &mut Wire) -> io::Result<bool> {
     let Some(op) = wire.next_word()? else {
         return Ok(false);

@@ -22,6 +22,7 @@ fn answer_block(wire: &mut Wire) -> io::Result<()> {
     let seed = wire.read()?;
     let energies = wire.read::<[f32; MAX_BANDS]>()?;
     let mut block = [0.0f32; BLOCK_MOST];
+    // The `min` cuts nothing, as an lm above 3 counts as 3: it tells the check so.
     let n = FRAME_MOST.min(frame_size(lm));
     let after = noise_block(
         &mut block[..n + OVERLAP],

@@ -22,6 +22,7 @@ fn mono(lm: u32) -> Settings {
         lm,
         channels: 1,
         start: 0,
+        // By `as`: std has no `From` of usize to u32.
         end: BANDS as u32,
         downsample: 1,
     }

@@ -9,8 +9,8 @@ use plc_downsample::pitch_downsample;
 use plc_search::pitch_search;
 use std::io;
 
-// The sizes of the search at half rate, from the limits of the lag: places, and samples that are compared. At quarter rate half of
-// these; `plc_search` keeps its own to itself.
+// The protocol's sizes of a sweep, from the limits of the lag. At half rate: places, and samples that are compared. At quarter rate
+// half of these. `plc_search` has the same as steps of its own, which are private.
 const PLACES: usize = (LAG_MOST - LAG_LEAST) / 2 + 1;
 
 const COMPARED: usize = HALF - LAG_MOST / 2;
@@ -21,7 +21,8 @@ const COMPARED4: usize = COMPARED / 2;
 
 const REACHED4: usize = COMPARED4 + PLACES4;
 
-// The samples of each used channel, without its overlap. Here and below `two` is what the operation's number has answered.
+// The samples of each used channel, without its overlap. Here and below `two`: the operation's number says whether there
+// is a second channel, and two functions each would differ in nothing else.
 fn read_samples(wire: &mut Wire, two: bool) -> io::Result<[f32; WHOLE]> {
     let mut h: [f32; WHOLE] = wire.read_first(SAMPLES)?;
     if two {

@@ -56,7 +56,7 @@ impl Value for usize {
     }
 }
 
-// One after the other.
+// One after the other. Of floats alone: an array begins as zeros, and a type has no zero of its own.
 impl<const N: usize> Value for [f32; N] {
     fn read(wire: &mut Wire) -> Result<[f32; N]> {
         wire.read_first(N)
@@ -84,7 +84,7 @@ impl Wire {
         })
     }
 
-    // Fills b as far as the input goes; how many bytes came.
+    // Fills b as far as the input goes; how many bytes came. Beside `fill` of `conceal`, which waits and is proved to keep the bytes.
     pub(crate) fn fill(&mut self, b: &mut [u8]) -> Result<usize> {
         for (i, place) in b.iter_mut().enumerate() {
             match self.input.next() {

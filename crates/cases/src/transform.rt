@@ -20,7 +20,7 @@ fn answer_entry<V: Value>(wire: &mut Wire, table: &[V]) -> io::Result<bool> {
     Ok(true)
 }
 
-// The bins of a frame to twice as many samples.
+// The bins of a frame to twice as many samples. Both sizes: no array length is computed from a const parameter.
 fn answer_sum<const BINS: usize, const SAMPLES: usize>(wire: &mut Wire) -> io::Result<()>
     requires { (BINS ≤ 960) × (is_frame_size BINS ≡ true) × (SAMPLES ≡ 2 * BINS) }
 {

@@ -71,7 +71,7 @@ impl<C: Clock, W: Write> Write for Waited<'_, C, W> {
     }
 }
 
-// Reads until buf is full or the input ends; how many bytes came.
+// Reads until buf is full or the input ends; how many bytes came, which the library's `read_exact` does not say.
 pub(crate) fn fill<R: Read>(input: &mut R, buf: &mut [u8]) -> Result<usize>
     ensures bound { ReadsAtMost result buf.new }
     ensures bytes { IfOk result (λ n. Consumes (R.remaining input.old) (R.remaining input.new) (take n buf.new)) }

@@ -2,9 +2,9 @@
 use mathlib.Core.Path.{◌≡◌, refl, ap, ap₂, ◌∙◌, sym}
 use mathlib.Core.List.{List, [], ◌∷◌, ◌++◌}
 use mathlib.Core.Bool.{Bool, true, false, ◌&&◌}
-use Prim.Native.Nat.{ℕ, ◌+◌, ◌*◌, ◌/◌, ◌%◌, ◌<◌}
+use Prim.Native.Nat.{ℕ, ◌+◌, ◌*◌, ◌/◌, ◌%◌}
 use native.Mathlib.Omega.{arith}
-use lib.ListN.{length, get_or, drop, set, drop_of_length-le}
+use lib.ListN.{length, get_or, drop, drop_of_length-le}
 use lib.Dec.{leb, eqb}
 use lib.Ieee.{Float, nan}
 use borrow.Author.Tests.{leb-true, eqb-true, eq-eqb, ne_eqb}
@@ -73,20 +73,23 @@ module _ (d : ℕ) (vs : List (List Float)) (memories pcm : List Float) where
   unfolding deemphasised
   done b e m p k em ep ek = reply-yes b _ _ e (ap₂ sound (ep ∙ ap (front (deemphasis d vs memories).pcm pcm) ek) em)
 
-first-set : (f : ℕ → Float) (m : List Float) → 0 < length m → set m 0 (f 0) ≡ tab f 1 ++ drop 1 m
+first-taken : (f : ℕ → Float) (m : List Float) → length m ≡ 2 → f 0 ∷ get_or m 1 nan ∷ [] ≡ tab f 1 ++ drop 1 m
 unfolding tab
-first-set f [] h = let z : ⊥ = omega arith in absurd z
-first-set f (x ∷ m) h = refl
+first-taken f (x ∷ y ∷ []) h = refl
+first-taken f [] h = let z : ⊥ = omega arith in absurd z
+first-taken f (x ∷ []) h = let z : ⊥ = omega arith in absurd z
+first-taken f (x ∷ y ∷ v ∷ m) h = let z : ⊥ = omega arith in absurd z
 
 module _ (d : ℕ) (v memories pcm : List Float) (two : length memories ≡ 2) where
   pub mono-done : has_room d (length v) (length pcm) ≡ true → (r : Float) (p : List Float) → r ≡ memory_to v (get_or memories 0 nan) (length v)
       → p ≡ front (tab (value_at d (v ∷ []) (get_or memories 0 nan ∷ [])) (length v / d)) pcm (length v / d)
-      → reply true (sound p (set memories 0 r)) ≡ deemphasis_mono d v memories pcm
+      → reply true (sound p (r ∷ get_or memories 1 nan ∷ [])) ≡ deemphasis_mono d v memories pcm
   unfolding deemphasis_mono deemphasis value_at
   mono-done e r p er ep =
       let a : length v / d ≡ 1 * (length v / d) = omega arith in
-      done d (v ∷ []) memories pcm _ e (set memories 0 r) p (length v / d)
-      (ap (set memories 0) er ∙ first-set (λ (c : ℕ). memory_to (get_or (v ∷ []) c []) (get_or memories c nan) (length v)) memories (omega arith))
+      done d (v ∷ []) memories pcm _ e (r ∷ get_or memories 1 nan ∷ []) p (length v / d)
+      (ap (λ z. z ∷ get_or memories 1 nan ∷ []) er
+      ∙ first-taken (λ (c : ℕ). memory_to (get_or (v ∷ []) c []) (get_or memories c nan) (length v)) memories two)
       (ep ∙ ap (λ z. front z pcm (length v / d)) (tab-same _ _ (length v / d)
       (λ q h.
       let o : q % 1 ≡ 0 = omega arith in

@@ -10,7 +10,7 @@ ghost use Rattle.deemphasis.specs.Deemphasis.{memory_to, Room, value_at, sound, 
 use deemphasis::{has_room, next_memory, pcm_value};
 use reply::Refused;
 
-// One channel's PCM, and its memory after all samples.
+// One channel's PCM, and its memory after all samples. Why one function does not serve both: `deemphasis_stereo` says it.
 fn filter_mono(v: &[f32], memory: f32, downsample: usize, pcm: &mut [f32]) -> f32
     requires { Room downsample (length v.now) (length pcm.old) }
     ensures { (result ≡ memory_to v.now memory (length v.now))
@@ -28,8 +28,8 @@ fn filter_mono(v: &[f32], memory: f32, downsample: usize, pcm: &mut [f32]) -> f3
     mem
 }
 
-// De-emphasis of one channel's samples; the other memory is carried. Samples, memories, factor and PCM apart, as in all these
-// functions: what is read, carried and written has an owner each.
+// De-emphasis of one channel's samples; the other memory is carried. Samples, memories, factor and PCM apart, as in
+// `deemphasis_stereo` and `frame_sound`: what is read, carried and written has an owner each.
 pub fn deemphasis_mono(
     v: &[f32],
     memories: [f32; 2],
@@ -41,7 +41,6 @@ pub fn deemphasis_mono(
     if !has_room(downsample, v.len(), pcm.len()) {
         return Err(Refused);
     }
-    let mut after = memories;
-    after[0] = filter_mono(v, memories[0], downsample, pcm);
-    Ok(after)
+    let [memory, other] = memories;
+    Ok([filter_mono(v, memory, downsample, pcm), other])
 }

@@ -42,7 +42,7 @@ fn filter_stereo(
     [first, second]
 }
 
-// De-emphasis of two channels' samples, interleaved.
+// De-emphasis of two channels' samples, interleaved. Parameters apart, as in `deemphasis_mono`.
 pub fn deemphasis_stereo(
     v: &[f32],
     w: &[f32],

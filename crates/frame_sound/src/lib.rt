@@ -24,6 +24,7 @@ fn sound_takes(k: Settings, n: usize, p: usize) -> bool
 }
 
 // The newest N samples of each used channel as PCM, and the memories after it. What is refused leaves PCM and memories.
+// Parameters apart, as in `deemphasis_mono`.
 pub fn frame_sound(
     k: Settings,
     history: &[f32],
