@@ -12,7 +12,7 @@ use words::values_at;
 const LENT_MOST: usize = WHOLE + 1;
 
 // A decoder's state and the history that its calls are lent.
-// The PCM buffer stands beside it: a call through a reference lends one field.
+// The PCM buffer stands beside it: through a reference to a struct one call is not lent two of its fields.
 #[derive(Drop)]
 pub(crate) struct Decoder {
     pub state: State,

@@ -45,7 +45,8 @@ impl Value for f64 {
     }
 }
 
-// One word: every number that is written fits it, which no contract here says. Read by `as`: std has no `From` of a word to usize.
+// One word: every number that is written fits it, which no contract here says, so the remainder is what `as` loses nothing of.
+// Read by `as`: std has no `From` of a word to usize.
 impl Value for usize {
     fn read(wire: &mut Wire) -> Result<usize> {
         Ok(u32::read(wire)? as usize)

@@ -7,6 +7,7 @@ ghost use Rattle.deemphasis.specs.Deemphasis.{next_memory, pcm_value, has_room};
 
 use custom_mode::standard::preemph;
 
+// 1 / 32,768.
 const PER_SCALE: f32 = 0.000030517578125;
 
 // The memory after the sample v. The product with v stays, though its coefficient is 0: it turns an infinite v into NaN.

@@ -29,7 +29,7 @@ fn filter_mono(v: &[f32], memory: f32, downsample: usize, pcm: &mut [f32]) -> f3
 }
 
 // De-emphasis of one channel's samples; the other memory is carried. Samples, memories, factor and PCM apart, as in
-// `deemphasis_stereo` and `frame_sound`: what is read, carried and written has an owner each.
+// `deemphasis_stereo` and `frame_sound`: what is read, carried and written belongs to different owners.
 pub fn deemphasis_mono(
     v: &[f32],
     memories: [f32; 2],
