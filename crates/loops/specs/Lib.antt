@@ -10,3 +10,4 @@ pub mod Below
 pub mod Every
 pub mod Nan
 pub mod Made
+pub mod Mapped

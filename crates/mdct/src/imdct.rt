@@ -5,7 +5,7 @@ ghost use Rattle.std.specs.Float.Ieee.{add, mul};
 ghost use Rattle.loops.specs.Front.{tab};
 ghost use Rattle.reply.specs.Reply.{replied};
 ghost use Rattle.cosine_circle.specs.Circle.{is_frame_size, IsCircle};
-ghost use Rattle.mdct.specs.Imdct.{half_of, imdct, imdct_takes, imdct_reply, imdct_sum};
+ghost use Rattle.mdct.specs.Imdct.{imdct, imdct_takes, imdct_reply, imdct_sum};
 
 use cosine_circle::{STEPS, circle, is_frame_size};
 use float_bits::formats::f32_to_f64;
@@ -31,7 +31,7 @@ fn along(first: usize, by: usize, w: usize) -> [usize; 8]
 }
 
 // Adds an input v to eight sums, each times the cosine at its place.
-// Here and in the two loops below the second list is read by number: of `iter_mut().zip(..)` a proof knows the items alone.
+// Here and in `onward` the second list is read by number: of `iter_mut().zip(..)` a proof knows the items alone.
 fn add_terms(circle: &[f64; STEPS], v: f64, at: &[usize; 8], acc: &mut [f64; 8])
     requires by_index { (j : ℕ) → j < 8 → get_or at.now j 0 < 3840 }
     ensures { acc.new
@@ -53,16 +53,6 @@ fn onward(step: &[usize; 8], w: usize, at: &mut [usize; 8])
     }
 }
 
-// Half of each of eight sums, rounded to f32.
-fn halves(sums: &[f64; 8], out: &mut [f32])
-    requires { length out.old ≡ 8 }
-    ensures { out.new ≡ tab (λ j. half_of (get_or sums.now j nan)) 8 }
-{
-    for (j, o) in out.iter_mut().enumerate() {
-        *o = f64_to_f32(0.5 * sums[j]);
-    }
-}
-
 // The inputs of a frame, beside the circle of cosines for their number.
 #[derive(Clone, Copy)]
 struct Frame<'a> {
@@ -73,7 +63,8 @@ struct Frame<'a> {
 }
 
 impl Frame<'_> {
-    // The sums of eight outputs from t on: eight sums side by side, each in the order of the inputs.
+    // The sums of eight outputs from t on: eight sums side by side, each in the order of the inputs. Eight by number, here and in
+    // `outputs`: the contracts and the name say it too.
     fn eight(self, t: usize) -> [f64; 8]
         requires { t < 1920 }
         ensures { result ≡ tab (λ j. imdct_sum (length self.entry.x.now) self.entry.x.now (t + j)) 8 }
@@ -100,7 +91,7 @@ impl Frame<'_> {
         // eights is that of `fill_sums` in mdct_pairs: one for both would be public, and ask that its closure may be called.
         for k in 0..out.len() / 8 {
             let t = 8 * k;
-            halves(&self.eight(t), &mut out[t..t + 8]);
+            out[t..t + 8].copy_from_slice(&self.eight(t).map(|sum| f64_to_f32(0.5 * sum)));
         }
     }
 }

@@ -2,8 +2,8 @@ use Rattle.std.proofs.Common.{rules, ap, ◌∙◌, get_or}
 use Rattle.std.specs.Float.{Float, nan, binary32}
 use Rattle.std.specs.Float.Ieee.{mul, neg}
 use Rattle.loops.specs.Front.{tab}
+use Rattle.loops.specs.Mapped.{mapped}
 use Rattle.comb_filter.specs.Comb.{tap_gain}
-use Rattle.comb_filter.proofs.Laws.{mapped}
 use Rattle.comb_filter.proofs.tap_gains.Goals as goal
 
 pub returns : goal.returns
