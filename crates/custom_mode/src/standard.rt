@@ -21,10 +21,13 @@ pub const BANDS: usize = 21;
 // The energies of a channel: more than it has bands.
 pub const MAX_BANDS: usize = 25;
 
-// Those of both channels, in one list: band i of channel c at MAX_BANDS * c + i.
-pub const ENERGIES: usize = 2 * MAX_BANDS;
+// The channels of a stream at most. Elsewhere a plain 2 is one and the other.
+pub const CHANNELS: usize = 2;
 
-// Where the last band ends.
+// The energies of both channels, in one list: band i of channel c at MAX_BANDS * c + i.
+pub const ENERGIES: usize = CHANNELS * MAX_BANDS;
+
+// Where the last band ends, in bins of the shortest block.
 pub const LAST_EDGE: usize = 100;
 
 const EDGES: [usize; BANDS + 1] = [
@@ -52,7 +55,7 @@ pub fn mean_energy(i: usize) -> f32
     E_MEANS.get(i).copied().unwrap_or(0.0)
 }
 
-// The de-emphasis coefficients.
+// The de-emphasis coefficients: four, as the mode has them; no step reads the third.
 #[tactic(auto, unfolding(crate::specs::Mode::preemph))]
 pub fn preemph() -> [f32; 4]
     ensures { result ≡ preemph }

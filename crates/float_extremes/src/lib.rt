@@ -1,5 +1,5 @@
-// Rust's `f32::min` and `f32::max`, which leave open which of two zeros they answer: here it is the first. Document 01's own
-// helpers, an expression each.
+// Rust's `f32::min` and `f32::max`, which leave open which of two zeros they answer: here it is the first, as `min_of` and
+// `max_of` promise. An expression each.
 
 #![tactic(auto)]
 

@@ -1,5 +1,5 @@
 // An f64 to the nearest f32, in the order of IEEE 754-2019, clause 4.3.1 (round_ties_to_even); what is quoted is its words.
-// So it is written out, in place of the library's `std::num::nearest_f64_to_f32_with_nan`.
+// So it is written out, in place of the library's `std::num::nearest_f64_to_f32_with_nan`: what `clause` promises stays.
 
 #![tactic(auto)]
 
@@ -9,6 +9,12 @@ ghost use Rattle.std.specs.Float.Ieee.{is_nan, of_bits, to_bits};
 ghost use Rattle.float_narrow.specs.Narrow.{narrow};
 ghost use Rattle.float_narrow.specs.Clause.{clause, delivered};
 ghost use Rattle.float_narrow.specs.Steps.{Magnitude};
+
+// An f64's bits are its exponent's field times this, and the digits after the leading one.
+const LEADING: u64 = 1 << 52;
+
+// The same of an f32.
+const LEADING_F32: u64 = 1 << 23;
 
 // How many units u are nearest to q. By tests, each beside the clause's words: a `match` on `cmp` would be no plainer.
 fn nearest(q: u64, u: u64) -> u64
@@ -35,24 +41,26 @@ fn nearest(q: u64, u: u64) -> u64
     }
 }
 
-// The bits, without the sign's, of the number nearest to what an f64's fields e and t stand for:
-// of those with 24 digits, the last with an exponent not below the format's least.
+// The bits, without the sign's, of the number nearest to what an f64's fields e and t stand for, q of 2 ^ (e - 1,075):
+// of the numbers with 24 digits, the last of which is 2 ^ -149 or more.
 fn nearest_number(e: u64, t: u64) -> u64
     requires t_bound { e * 2 ^ 52 + t < 0x47ef_ffff_f000_0000 }
     requires t_bound_2 { t < 2 ^ 52 }
     ensures { Magnitude e t result }
 {
-    // so many of 2 ^ (e - 1075); where e is 0 no digit leads, but none is left then
-    let q = 0x10_0000_0000_0000 + t;
+    // where e is 0 no digit leads, but none is left then
+    let q = LEADING + t;
+    // from 897 = 1,023 - 127 + 1 on an f32 has a leading digit, with e - 897 + 1 for its field
     if e < 897 {
-        // the last digit has the least exponent: so many lie beyond it, and from 54 on none is left
+        // the last digit is 2 ^ -149 = 2 ^ (926 - 1,075): so many of q's 53 lie beyond it, and from 54 on none is left
         let beyond = 926 - e;
         if 54 < beyond {
             return 0;
         }
         return nearest(q, 1u64 << beyond);
     }
-    (e - 897) * 0x80_0000 + nearest(q, 0x2000_0000)
+    // 29 of the 53 lie beyond 24; the leading one counts one up in the field
+    (e - 897) * LEADING_F32 + nearest(q, 0x2000_0000)
 }
 
 // The sign's bit of an f32 for that of an f64.
@@ -75,7 +83,7 @@ fn narrow_bits(b: u64) -> u32
     if 0x47ef_ffff_f000_0000 <= precise {
         return (sign + 0x7f80_0000) as u32;
     }
-    (sign + nearest_number(precise / 0x10_0000_0000_0000, precise % 0x10_0000_0000_0000)) as u32
+    (sign + nearest_number(precise / LEADING, precise % LEADING)) as u32
 }
 
 // The f32 nearest to x, a tie to the one with the even significand.

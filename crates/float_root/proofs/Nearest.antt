@@ -2,12 +2,12 @@
 use mathlib.Core.Path.{◌≡◌, refl, sym, ap, ◌∙◌, subst}
 use mathlib.Core.Logic.{inl, inr}
 use Prim.Native.Nat.{ℕ, zero, suc, ◌+◌, ◌-◌, ◌*◌, ◌/◌, ◌%◌, ◌^◌, ◌≤◌, ◌<◌}
-use native.Mathlib.Nat.{le_trans, le_of_eq, lt_of_le_of_lt, lt_irrefl, mod-lt}
+use native.Mathlib.Nat.{le_trans, le_of_eq, lt_of_le_of_lt}
 use native.Mathlib.Nat.{mul-one, mul_assoc, mul_right_comm, mul-le-mul_right, mul-lt-mul_of_pos_right, lt_of_mul-lt-mul_right}
 use native.Mathlib.Omega.{arith}
 use mathlib.Core.Bool.{true, false, ◌&&◌}
 use lib.IntN.{ℤ, pos, negsuc}
-use lib.Dec.{T, leb, ltb, eqb, leb→le, ltb→lt, lit<}
+use lib.Dec.{T, leb, ltb, eqb, leb→le, ltb→lt}
 use lib.Pow.{pow-add, pow_pos, shl_lt}
 use lib.Ieee.{Float, nan, inf, fin, binary32, up, down, fits, of_bits}
 use lib.Ieee.Fits.{and_l, and_r}
@@ -16,7 +16,7 @@ use lib.Ieee.Positive.{positive, value_pos, first_pos}
 use Rattle.float_root.specs.Root.{root_to, sqrt_of, NearRoot}
 use Rattle.float_root.specs.Steps.{ScaledTo, RootBits}
 use Rattle.float_bits.proofs.Laws.{here_or_on, pow_lt_back, pow_le_back}
-use Rattle.float_root.proofs.Roots.{some_left, turn, start, first_small, Shape, shape, root-up, root-down, bits-value, near-root}
+use Rattle.float_root.proofs.Roots.{pairs, first-pos, first_small, raised-low, raised-same, scaled-up, Shape, shape, root-up, root-down, bits-value, near-root}
 use Rattle.float_root.proofs.Sqrt.{root-to, root-value}
 
 -- ---- a finite f32 above zero is a whole number of units
@@ -68,15 +68,12 @@ module _ (q h : ℕ) (p : 0 < q) (g : 149 ≤ h) (l : q * 2 ^ h < 2 ^ 426) where
       (le_trans (mul-le-mul_right (2 ^ k * 2 ^ k) lo) (le_of_eq e))) l) in
       omega arith
 
-  scaled : (m k : ℕ) → m * (2 ^ k * 2 ^ k) ≡ q * 2 ^ h → m < 2 ^ 48 → 2 ^ 46 ≤ m → Scaling (q * 2 ^ h)
-  scaled m k e s lo = (m, k, record { same = e; low = lo; high = s; few = few-left m k e lo })
-
-  scaling : (k m : ℕ) → m * (2 ^ k * 2 ^ k) ≡ q * 2 ^ h → m < 2 ^ 48 → Scaling (q * 2 ^ h)
-  scaling zero m e s = absurd (lt_irrefl 0 (some_left m 0 q h e s p g))
-  scaling (suc j) m e s = elim (here_or_on m (2 ^ 46)) [
-    | inl lo ↦ scaling j (m * 4) (turn m j ∙ e) (omega arith)
-    | inr lo ↦ scaled m (suc j) e s lo
-  ]
+  scaling : q < 2 ^ 24 → Scaling (q * 2 ^ h)
+  scaling s =
+      let m = q * (1 + h % 2) in
+      let k = h / 2 - pairs m in
+      let lo = raised-low m (first-pos q h p s g) (first_small q h p s g) in
+      (m * 2 ^ (2 * pairs m), k, scaled-up q h p s g (few-left (m * 2 ^ (2 * pairs m)) k (raised-same q h p s g) lo))
 
 root-of : (n m k : ℕ) → ScaledTo n m k → (r : ℕ) × RootBits n r
 root-of n m k w =
@@ -93,9 +90,7 @@ has-root a p l (q, x, s, e) =
     ap (λ (z : ℕ). z * 2 ^ 149) e ∙ mul_assoc q (2 ^ x) (2 ^ 149) ∙ ap (λ (z : ℕ). q * z) (sym (pow-add 2 x 149)) in
     let Q : 0 < q = some q (subst (λ (z : ℕ). 0 < z) e p) in
     let h = x + 149 in
-    let c = scaling q h Q (omega arith) (subst (λ (z : ℕ). z < 2 ^ 426) z (shl_lt 277 149 l))
-    (h / 2) (q * (1 + h % 2))
-    (start q h) (first_small q (h % 2) s (mod-lt h (lit< tt))) in
+    let c = scaling q h Q (omega arith) (subst (λ (z : ℕ). z < 2 ^ 426) z (shl_lt 277 149 l)) s in
     root-of (a * 2 ^ 149) c.0 c.1 (subst (λ (v : ℕ). ScaledTo v c.0 c.1) (sym z) c.2)
   where
     some : (q : ℕ) → 0 < q * 2 ^ x → 0 < q

@@ -9,7 +9,9 @@ use native.Mathlib.Nat.{eq_of_mul-eq-mul_right, lt_of_mul-lt-mul_right}
 use native.Mathlib.Omega.{arith}
 use mathlib.Core.Bool.{false, ◌&&◌}
 use lib.IntN.{ℤ, pos, negsuc}
+use lib.Count.{count_leading_zeros}
 use lib.Dec.{T, leb, ltb, eqb, leb→le, ltb→lt, lit<, lit≤}
+use Rattle.std.proofs.lemmas.Nat.{leading_top}
 use lib.Pow.{pow-add, pow_pos, pow_mono, shl_lt}
 use lib.Ieee.{Float, nan, inf, fin, binary32, up, down, odd, units, fits, of_bits}
 use lib.Ieee.Fits.{and_l, and_r, down_pos, odd-fits, cond-fits, inf-fits}
@@ -18,20 +20,7 @@ use lib.Ieee.Exact.{HasValue, units_val}
 use Rattle.float_root.specs.Root.{NearRoot}
 use Rattle.float_bits.specs.Steps.{significand}
 use Rattle.float_root.specs.Steps.{ScaledTo, RootBits}
-use Rattle.float_bits.proofs.Laws.{here_or_on, pow_le_back, finite-bits}
-
--- ---- one turn of the loop
-quarter : (m p : ℕ) → m * 4 * (p * p) ≡ m * (2 * p * (2 * p))
-quarter m p = omega arith
-
-pred-suc : (k : ℕ) → 0 < k → suc (k - 1) ≡ k
-pred-suc k h = omega arith
-
-pub turn : (m j : ℕ) → m * 4 * (2 ^ j * 2 ^ j) ≡ m * (2 ^ suc j * 2 ^ suc j)
-turn m j = quarter m (2 ^ j) ∙ ap (λ (z : ℕ). m * (z * z)) (sym (pow-succ' 2 j))
-
-pub step : (m k : ℕ) → 0 < k → m * 4 * (2 ^ (k - 1) * 2 ^ (k - 1)) ≡ m * (2 ^ k * 2 ^ k)
-step m k h = turn m (k - 1) ∙ ap (λ (z : ℕ). m * (2 ^ z * 2 ^ z)) (pred-suc k h)
+use Rattle.float_bits.proofs.Laws.{here_or_on, pow_lt_back, pow_le_back, finite-bits}
 
 -- ---- the start: h is even or odd
 halves : (h : ℕ) → h % 2 ≡ 0 → h / 2 + h / 2 ≡ h
@@ -69,25 +58,68 @@ start q h = elim (parity h) [
       ∙ ap (λ (z : ℕ). q * z) (ap (λ (z : ℕ). 2 * z) (sym (pow-add 2 (h / 2) (h / 2))) ∙ sym (pow-succ' 2 (h / 2 + h / 2)) ∙ ap (λ (z : ℕ). 2 ^ z) (halves' h e))
 ]
 
--- ---- while m is short, k is above 0
-pub some_left : (m k q h : ℕ) → m * (2 ^ k * 2 ^ k) ≡ q * 2 ^ h → m < 2 ^ 48 → 0 < q → 149 ≤ h → 0 < k
-some_left m zero q h e l p g =
-    let big : 1 * 2 ^ 149 ≤ q * 2 ^ h = mul-le-mul p (pow_mono g) in
-    let e' : m * 1 ≡ q * 2 ^ h = e in
-    absurd (no m (q * 2 ^ h) e' l (le_trans (lit≤ tt) big))
-  where
-    no : (m n : ℕ) → m * 1 ≡ n → m < 2 ^ 48 → 2 ^ 48 ≤ n → ⊥
-    no m n e l b = omega arith
-some_left m (suc k) q h e l p g = pos k
-  where
-    pos : (k : ℕ) → 0 < suc k
-    pos k = omega arith
+-- ---- how far it goes up: by pairs of digits, to 47 or 48 of them
+abbrev pub pairs : ℕ → ℕ
+pairs m = (count_leading_zeros 64 m - 16) / 2
 
-pub first_small : (q r : ℕ) → q < 2 ^ 24 → r < 2 → q * (1 + r) < 2 ^ 48
-first_small q r h l = lt_of_le_of_lt (mul-le-mul (le_of_lt h) (two r l)) (lit< tt)
+module _ (m : ℕ) (p : 0 < m) (l : m < 2 ^ 25) where
+  leads : (j : ℕ) × (count_leading_zeros 64 m + suc j ≡ 64) × (2 ^ j ≤ m) × (m < 2 ^ suc j) × (j < 25)
+  leads =
+      let (j, s, lo, hi) = leading_top 64 m p (lt_of_lt_of_le l (lit≤ tt)) in
+      (j, s, lo, hi, pow_lt_back j 25 (lt_of_le_of_lt lo l))
+
+  pub enough : 16 ≤ count_leading_zeros 64 m
+  enough = let (j, s, lo, hi, f) = leads in omega (arith, s, f)
+
+  pub few-pairs : pairs m ≤ 23
+  few-pairs = let (j, s, lo, hi, f) = leads in omega (arith, s)
+
+  pub raised-low : 2 ^ 46 ≤ m * 2 ^ (2 * pairs m)
+  raised-low =
+      let (j, s, lo, hi, f) = leads in
+      let g : 46 ≤ j + 2 * pairs m = omega (arith, s, f) in
+      le_trans (pow_mono g) (le_trans (le_of_eq (pow-add 2 j (2 * pairs m))) (mul-le-mul_right (2 ^ (2 * pairs m)) lo))
+
+  pub raised-high : m * 2 ^ (2 * pairs m) < 2 ^ 48
+  raised-high =
+      let (j, s, lo, hi, f) = leads in
+      let g : suc j + 2 * pairs m ≤ 48 = omega (arith, s, f) in
+      lt_of_lt_of_le (shl_lt (suc j) (2 * pairs m) hi) (pow_mono g)
+
+raised : (m p k : ℕ) → m * 2 ^ (2 * p) * (2 ^ k * 2 ^ k) ≡ m * (2 ^ (p + k) * 2 ^ (p + k))
+raised m p k =
+    let two : 2 * p ≡ p + p = omega arith in
+    ap (λ (z : ℕ). m * z * (2 ^ k * 2 ^ k)) (ap (λ (z : ℕ). 2 ^ z) two ∙ pow-add 2 p p)
+    ∙ regroup (2 ^ p) (2 ^ k)
+    ∙ ap (λ (z : ℕ). m * (z * z)) (sym (pow-add 2 p k))
   where
-    two : (r : ℕ) → r < 2 → 1 + r ≤ 2
-    two r l = omega arith
+    regroup : (a b : ℕ) → m * (a * a) * (b * b) ≡ m * (a * b * (a * b))
+    regroup a b = omega arith
+
+module _ (q h : ℕ) (p : 0 < q) (l : q < 2 ^ 24) (g : 149 ≤ h) where
+  abbrev pub first : ℕ
+  first = q * (1 + h % 2)
+
+  pub first-pos : 0 < first
+  first-pos = mul-pos p (omega arith)
+
+  pub first_small : first < 2 ^ 25
+  first_small =
+      let two : 1 + h % 2 ≤ 2 = omega arith in
+      omega (arith, mul-le-mul_left q two)
+
+  pub raised-same : first * 2 ^ (2 * pairs first) * (2 ^ (h / 2 - pairs first) * 2 ^ (h / 2 - pairs first)) ≡ q * 2 ^ h
+  raised-same =
+      let back : pairs first + (h / 2 - pairs first) ≡ h / 2 = omega (arith, few-pairs first first-pos first_small) in
+      raised first (pairs first) (h / 2 - pairs first) ∙ ap (λ (z : ℕ). first * (2 ^ z * 2 ^ z)) back ∙ start q h
+
+  pub scaled-up : h / 2 - pairs first ≤ 201 → ScaledTo (q * 2 ^ h) (first * 2 ^ (2 * pairs first)) (h / 2 - pairs first)
+  scaled-up few = record {
+    same = raised-same;
+    low = raised-low first first-pos first_small;
+    high = raised-high first first-pos first_small;
+    few = few;
+  }
 
 -- ---- from the fields to the radicand
 pub rad_norm : (e t m k : ℕ) → (e ≡ 0 → ⊥) → ScaledTo ((2 ^ 23 + t) * 2 ^ (e + 148)) m k → ScaledTo (significand binary32 e t * 2 ^ 149) m k

@@ -1,4 +1,4 @@
-// The f32 square root, by whole numbers: document 01's own helper, in place of the library's `f32::sqrt`.
+// The f32 square root, by whole numbers. In place of the library's `f32::sqrt`: what `sqrt_of` promises stays, a definition of its own.
 
 #![tactic(auto)]
 
@@ -7,6 +7,9 @@ ghost use Rattle.std.specs.Float.{binary32};
 ghost use Rattle.float_root.specs.Root.{sqrt_of};
 ghost use Rattle.float_bits.specs.Steps.{significand};
 ghost use Rattle.float_root.specs.Steps.{ScaledTo, RootBits};
+
+// An f32's bits are its exponent's field times this, and the digits after the leading one.
+const LEADING: u64 = 1 << 23;
 
 // The largest whole number whose square is at most m. The loop halves an interval: it counts no index.
 // Of 48 digits it takes 24 halvings, where the library's `u64::isqrt` takes 32: 55 ns for a root, and not 100.
@@ -34,8 +37,7 @@ struct Scaled {
     k: u64,
 }
 
-// q * 2 ^ h with 47 or 48 digits before an even power of two. The loop shifts by two digits, so that the power stays even,
-// and ends by m's size: it counts no index.
+// q * 2 ^ h with 47 or 48 digits, 16 or 17 below 64, before an even power of two: m goes up by pairs of digits.
 fn scale(q: u64, h: u64) -> Scaled
     requires q_nonzero { 0 < q }
     requires q_bound { q < 2 ^ 24 }
@@ -43,30 +45,30 @@ fn scale(q: u64, h: u64) -> Scaled
     requires h_bound { h ≤ 402 }
     ensures { ScaledTo (q * 2 ^ h) result.m result.k }
 {
-    let mut m = q * (1 + h % 2);
-    let mut k = h / 2;
-    while m < 0x4000_0000_0000 {
-        m *= 4;
-        k -= 1;
+    let m = q * (1 + h % 2);
+    let pairs = (m.leading_zeros() - 16) / 2;
+    Scaled {
+        m: m << (2 * pairs),
+        k: h / 2 - u64::from(pairs),
     }
-    Scaled { m, k }
 }
 
-// The square of the root, in units, of the f32 whose bits are b.
+// The f32 whose bits are b, in units of 2 ^ -298, so that its root is in those of 2 ^ -149: m's digits, before an even power of two.
 fn radicand(b: u64) -> Scaled
     requires b_nonzero { 0 < b }
     requires b_bound { b < 0x7f80_0000 }
     ensures { ScaledTo (significand binary32 (b / 2 ^ 23) (b % 2 ^ 23) * 2 ^ 149) result.m result.k }
 {
-    let e = b / 0x80_0000;
-    let t = b % 0x80_0000;
+    let e = b / LEADING;
+    let t = b % LEADING;
+    // t or LEADING + t units of 2 ^ -149, of which each is 2 ^ 149 of the others
     if e == 0 {
         return scale(t, 149);
     }
-    scale(0x80_0000 + t, e + 148)
+    scale(LEADING + t, e + 148)
 }
 
-// The bits of the square root of the f32 whose bits are b.
+// The bits of the square root of the f32 whose bits are b: the leading digit of its 24 counts one up in the exponent's field.
 fn root_bits(b: u64) -> u64
     requires b_nonzero { 0 < b }
     requires b_bound { b < 0x7f80_0000 }
@@ -74,10 +76,9 @@ fn root_bits(b: u64) -> u64
 {
     let Scaled { m, k } = radicand(b);
     let s = isqrt(m);
-    if s < m - s * s {
-        return k * 0x80_0000 + (s + 1);
-    }
-    k * 0x80_0000 + s
+    // nearer to s + 1 where m lies past s * s + s, and never halfway, as (s + 1 / 2) ^ 2 is no whole number
+    let nearest = if s < m - s * s { s + 1 } else { s };
+    k * LEADING + nearest
 }
 
 // The f32 nearest to the square root of x. The root's bits by `as`: they fit, so that a `try_from` could not refuse.

@@ -1,5 +1,5 @@
 // The layout of a decoder's history: of each channel 2,048 samples, oldest first, and then 120 of overlap.
-// Names and laws are in specs/ and proofs/.
+// The definitions and laws of it are in specs/ and proofs/.
 
 #![tactic(auto)]
 
@@ -9,11 +9,12 @@ pub const HALF: usize = 1024;
 // A channel's samples without its overlap.
 pub const SAMPLES: usize = 2 * HALF;
 
-pub const OVERLAP: usize = custom_mode::standard::OVERLAP;
+pub use custom_mode::standard::OVERLAP;
 
 // What a loss may change of a channel: its newest 1,024 samples and its overlap.
 pub const TAIL: usize = HALF + OVERLAP;
 
+// The mode's, under the name that the steps of a loss know.
 pub const LONGEST_FRAME: usize = custom_mode::standard::FRAME_MOST;
 
 // What is extrapolated beyond a frame: twice the overlap.

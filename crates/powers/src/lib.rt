@@ -264,7 +264,8 @@ const POWERS: [f64; 256] = [
     1.9945921121709402,
 ];
 
-// i counts modulo 256: total, as no public function asks anything. By a cast: std has no `From` of u64 to usize.
+// i counts modulo 256, the table's length as its type says it: total, as no public function asks anything. By a cast: std has no
+// `From` of u64 to usize.
 pub fn power_at(i: u64) -> f64
     ensures { result ≡ power (i % 256) }
 {

@@ -11,7 +11,7 @@ pub struct Refused;
 
 impl fmt::Display for Refused {
     fn fmt<W: fmt::Write>(&self, f: &mut fmt::Formatter<W>) -> fmt::Result {
-        write!(f, "a length or a setting that the step does not take")
+        f.write_str("a length or a setting that the step does not take")
     }
 }
 

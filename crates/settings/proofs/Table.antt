@@ -27,7 +27,8 @@ number_low BadFilter h = omega arith
 number_low BadHistory h = omega arith
 number_low ShortPcm h = omega arith
 
--- two results joined by `and` have the number that the table's join gives
+-- Two results joined by `and` have the number that the table's join gives. No proof cites it: it stays, since it says what `or_else` means for
+-- checks that follow each other.
 pub and_number : {A B : Type 0} (a : Result A Refusal) (b : Result B Refusal) → number_in (result_and a b) ≡ or_else (number_in a) (number_in b)
 unfolding or_else
 and_number (Ok x) b = refl

@@ -1,17 +1,18 @@
 // The settings that are refused: each check passes, or refuses for its own reason.
+// Functions, and no methods of `Settings`: under these names the definitions have them, and promises, edits and proofs cite them.
 ghost use Rattle.std.specs.Prelude.{◌≡◌, cond, eqb};
 ghost use Rattle.settings.specs.Number.{number_of, number_in, within};
 ghost use Rattle.settings.specs.Settings.{check_end, check_downsample, check_settings};
 
 use crate::{Refusal, Settings};
 
-// The mode's own number, as wide as the settings' words, to which it is held; so is that of the bands. By `as`: std has no `From`
-// of usize to u32, and a constant calls no `try_from`.
+// The mode's own numbers as u32, the width of the settings' words with which they are compared. By `as`: std has no `From` of
+// usize to u32, and a constant calls no `try_from`.
 pub const LM_MOST: u32 = custom_mode::standard::LM_MOST as u32;
 
-const CHANNELS_MOST: u32 = 2;
+const CHANNELS_MOST: u32 = custom_mode::standard::CHANNELS as u32;
 
-const BANDS: u32 = custom_mode::standard::BANDS as u32;
+pub const BANDS: u32 = custom_mode::standard::BANDS as u32;
 
 // Refused with e where a check does not pass.
 pub fn unless(passes: bool, e: Refusal) -> Result<(), Refusal>

@@ -9,14 +9,14 @@ use custom_mode::standard::SHORT_BLOCK;
 use settings::Settings;
 use settings::checks::{LM_MOST, settings_pass};
 
-// The block factor m; an lm above 3 counts as 3: both functions are total, since none asks anything of its callers.
+// The block factor m; an lm above 3 counts as 3, here and in `frame_size`, since no public function asks anything of its callers.
 pub fn block_factor(lm: u32) -> usize
     ensures { result ≡ block_factor lm }
 {
     1usize << lm.min(LM_MOST)
 }
 
-// The frame N; an lm above 3 counts as 3.
+// The frame N.
 pub fn frame_size(lm: u32) -> usize
     ensures { result ≡ 120 * block_factor lm }
 {

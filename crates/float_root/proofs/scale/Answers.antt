@@ -1,23 +1,26 @@
-use Prim.Native.Nat.{◌%◌, ◌<◌}
-use mathlib.Core.Path.{◌∙◌}
-use native.Mathlib.Nat.{mod-lt}
-use lib.Dec.{lit<}
+use mathlib.Core.Path.{sym, subst}
+use Prim.Native.Nat.{ℕ, ◌-◌, ◌*◌, ◌/◌, ◌%◌, ◌^◌}
+use native.Mathlib.Nat.{lt_of_lt_of_le, mod-eq_of_lt}
 use native.Mathlib.Omega.{arith}
-use Rattle.float_root.proofs.Roots.{start, step, some_left, first_small}
+use lib.Dec.{lit≤}
+use Rattle.float_root.specs.Steps.{ScaledTo}
+use Rattle.float_root.proofs.Roots.{pairs, first, first-pos, first_small, enough, raised-high, scaled-up}
 use Rattle.float_root.proofs.scale.Goals as goal
 
-pub loop-m-init : goal.loop-m-init
-loop-m-init c = (start c.args.q c.args.h, first_small c.args.q (c.args.h % 2) c.requires.q_bound (mod-lt c.args.h (lit< tt)), omega arith)
+pub overflow_sub-pairs : goal.overflow_sub-pairs
+overflow_sub-pairs c =
+    let q = c.args.q in
+    let h = c.args.h in
+    let r = c.requires in
+    enough _ (first-pos q h r.q_nonzero r.q_bound r.le_h) (first_small q h r.q_nonzero r.q_bound r.le_h)
 
-left : (c : goal.In-loop-m) → 0 < c.loop-m.k
-left c = let l = c.loop-m in
-    some_left l.m l.k c.args.q c.args.h l.invariant.0 l.invariant.1 c.requires.q_nonzero c.requires.le_h
-
-pub overflow_sub-k : goal.overflow_sub-k
-overflow_sub-k c = left c
-
-pub loop-m-smaller : goal.loop-m-smaller
-loop-m-smaller c = omega (arith, left c)
-
-pub loop-m-preserved : goal.loop-m-preserved
-loop-m-preserved c = (step c.loop-m.m c.loop-m.k (left c) ∙ c.loop-m.invariant.0, omega arith, omega arith)
+pub returns : goal.returns
+returns c =
+    let q = c.args.q in
+    let h = c.args.h in
+    let r = c.requires in
+    let m = first q h r.q_nonzero r.q_bound r.le_h in
+    let high = raised-high m (first-pos q h r.q_nonzero r.q_bound r.le_h) (first_small q h r.q_nonzero r.q_bound r.le_h) in
+    subst (λ (k : ℕ). ScaledTo (q * 2 ^ h) (m * 2 ^ (2 * pairs m) % 2 ^ 64) (h / 2 - k)) (sym c.from.ensures)
+    (subst (λ (z : ℕ). ScaledTo (q * 2 ^ h) z (h / 2 - pairs m)) (sym (mod-eq_of_lt (lt_of_lt_of_le high (lit≤ tt))))
+    (scaled-up q h r.q_nonzero r.q_bound r.le_h (omega arith)))

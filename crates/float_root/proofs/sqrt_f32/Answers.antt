@@ -14,16 +14,16 @@ use Rattle.float_root.proofs.Classify.{self-nan, self-zero, self-minus, self-inf
 use Rattle.float_bits.proofs.Word.{nan-bits, nan-is, real}
 use Rattle.float_root.proofs.sqrt_f32.Goals as goal
 
--- what owning an `f32` tells: the format holds it
 abbrev bits : Float → ℕ
 bits x = to_bits binary32 x
 
-held : (x : Float) → true ≡ fits binary32 x → T (fits binary32 x)
-held x e = subst T e tt
+-- what owning an `f32` tells: the format holds it
+module _ (x : Float) (w : fits binary32 x ≡ true) where
+  held : T (fits binary32 x)
+  held = subst T (sym w) tt
 
-module _ (x : Float) (f : T (fits binary32 x)) where
   same : of_bits binary32 (bits x) ≡ x
-  same = of_bits-to_bits binary32 x f
+  same = of_bits-to_bits binary32 x held
 
   themselves : of_bits binary32 (bits x) ≡ sqrt_of (of_bits binary32 (bits x)) → x ≡ sqrt_of x
   themselves h = subst (λ (v : Float). v ≡ sqrt_of v) same h
@@ -42,14 +42,14 @@ root_bits-requires-clause-b_bound c =
     let m : bits c.args.x ≡ 2 ^ 31 → ⊥ = search rules in
     let i : bits c.args.x ≡ 0x7f80_0000 → ⊥ = search rules in
     let l : bits c.args.x < 2 ^ 31 = omega arith in
-    omega (arith, c.from.ensures, at-most-inf c.args.x (held _ (sym c.well_formed.0.1)) (real c.args.x c.if-is_nan.ensures.value) l)
+    omega (arith, c.from.ensures, at-most-inf c.args.x c.well_formed.0.1 (real c.args.x c.if-is_nan.ensures.value) l)
 
 pub float_from_bits-result : goal.float_from_bits-result
 float_from_bits-result c = root-real _ c.root_bits.result c.root_bits.ensures
 
 pub returns-in-0 : goal.returns-in-0
 returns-in-0 c =
-    let keep = themselves c.args.x (held _ (sym c.well_formed.0.1)) in
+    let keep = themselves c.args.x c.well_formed.0.1 in
     elim c.in-0.is [
       | inl e ↦ keep (self-zero (bits c.args.x) e)
       | inr r ↦ elim r [ inl e ↦ keep (self-inf (bits c.args.x) e) | inr e ↦ keep (self-minus (bits c.args.x) e) ]
@@ -57,10 +57,10 @@ returns-in-0 c =
 
 pub returns-in_default : goal.returns-in_default
 returns-in_default c =
-    let w : bits c.args.x < 2 ^ 32 = to_bits-lt binary32 c.args.x (held _ (sym c.well_formed.0.1)) in
+    let w : bits c.args.x < 2 ^ 32 = to_bits-lt binary32 c.args.x (held c.args.x c.well_formed.0.1) in
     nan-bits
-    ∙ subst (λ (v : Float). nan ≡ sqrt_of v) (same c.args.x (held _ (sym c.well_formed.0.1)))
-    (neg_bits (bits c.args.x) c.if-b-gt2147483648.true w (read_real c.args.x (held _ (sym c.well_formed.0.1)) (real c.args.x c.if-is_nan.ensures.value)))
+    ∙ subst (λ (v : Float). nan ≡ sqrt_of v) (same c.args.x c.well_formed.0.1)
+    (neg_bits (bits c.args.x) c.if-b-gt2147483648.true w (read_real c.args.x c.well_formed.0.1 (real c.args.x c.if-is_nan.ensures.value)))
 
 pub returns-in_default-2 : goal.returns-in_default-2
 returns-in_default-2 c =
@@ -68,7 +68,7 @@ returns-in_default-2 c =
     let m : bits c.args.x ≡ 2 ^ 31 → ⊥ = search rules in
     let i : bits c.args.x ≡ 0x7f80_0000 → ⊥ = search rules in
     let l : bits c.args.x < 2 ^ 31 = omega arith in
-    let most = at-most-inf c.args.x (held _ (sym c.well_formed.0.1)) (real c.args.x c.if-is_nan.ensures.value) l in
-    subst (λ (v : Float). of_bits binary32 c.root_bits.result ≡ sqrt_of v) (same c.args.x (held _ (sym c.well_formed.0.1)))
+    let most = at-most-inf c.args.x c.well_formed.0.1 (real c.args.x c.if-is_nan.ensures.value) l in
+    subst (λ (v : Float). of_bits binary32 c.root_bits.result ≡ sqrt_of v) (same c.args.x c.well_formed.0.1)
     (root_is (bits c.args.x) c.root_bits.result (omega arith) (omega (arith, most))
     (subst (λ (b : ℕ). RootBits (significand binary32 (b / 2 ^ 23) (b % 2 ^ 23) * 2 ^ 149) c.root_bits.result) c.from.ensures c.root_bits.ensures))
