@@ -28,8 +28,8 @@ fn conceal_record(
     ref_decode::decode_lost(record::read_state(rec), history, pcm)
 }
 
-// A record whose loss was accepted is written anew; a refused one stays as it was read. Not one with `direct`'s step: a record is
-// bytes, with the history in them, and the head is what C is handed. By `as`: std has no `From` of a word to usize.
+// A record whose loss was accepted is written anew; a refused one stays as it was read. Not one function with `direct`'s: a record
+// is bytes, with the history in them, and the head is what C is handed. By `as`: std has no `From` of a word to usize.
 // By length: once `try_from` has made an array of the slice, a proof no longer has what the slice itself becomes.
 fn answer(rec: &mut [u8], head: &mut [u8]) -> Result<usize, Refused>
     requires { (length rec.old ≡ record_length) × (head_most ≤ length head.old) }

@@ -18,12 +18,13 @@ const REPORT_WORDS: usize = 3;
 
 const REPORT_BYTES: usize = 4 * REPORT_WORDS;
 
+// The bytes of the longest answer.
 pub const HEAD_BYTES: usize = REPORT_BYTES + 4 * SAMPLES_MOST;
 
 // The number that a record cut short gets, written as document 01 gives it: no call is refused by it, so it is no `Refusal`.
 const CUT_SHORT: u32 = 11;
 
-// Number, kind and sample count, and then the samples; how many bytes they are. A `head` of less than 7,692 bytes and
+// Number, kind and sample count, and then the samples; how many bytes they are. A `head` of less than 7,692 bytes or
 // more than 1,920 samples are refused, and `head` stays. Number and kind are the record's own words, of 32 bits; buffer and
 // count are what C is handed. The count by `as`: no more than 1,920, so that a `try_from` could not refuse.
 #[tactic(auto, using(std::proofs::lemmas::Bool::Decides::nat_tests), unfolding(reply::specs::Reply::reply_if, crate::specs::Head::head_fits))]
@@ -42,8 +43,8 @@ pub fn write_head(head: &mut [u8], number: u32, kind: u32, pcm: &[f32]) -> Resul
     Ok(REPORT_BYTES + 4 * samples)
 }
 
-// The step for what is left past the last whole record, n bytes of it: no bytes for none, and else 11, 0, 0. How many is a
-// number here as in `write_head`, and none is one of them.
+// The step for what is left past the last whole record, n bytes of it: no bytes for none, and else 11, 0, 0. It answers
+// a count, as `write_head` does, of which 0 is one: no `Option`.
 // A `head` of less than 12 bytes is refused, and stays.
 #[tactic(auto, using(std::proofs::lemmas::Bool::Decides::nat_tests), unfolding(reply::specs::Reply::reply_if))]
 pub fn answer_tail(n: usize, head: &mut [u8]) -> Result<usize, Refused>

@@ -10,7 +10,8 @@ ghost use Rattle.words.specs.Bytes.{holds, values_bytes};
 use float_bits::words::Word;
 use reply::Refused;
 
-// The bytes of the values' words, in place. By place: of a zip with `iter_mut` the check knows the items alone, not what b becomes.
+// The bytes of the values' words, in place. By place: of the parts that `as_chunks_mut` lends the check knows how many, not what b
+// becomes.
 // `put_state_words` fills words and no bytes, so that its loop is another.
 fn put_values<W: Word>(b: &mut [u8], xs: &[W])
     requires { length b.old ≡ 4 * length xs.now }
@@ -21,7 +22,8 @@ fn put_values<W: Word>(b: &mut [u8], xs: &[W])
     }
 }
 
-// The values' bytes in the place of the words from the one numbered i on; b stays where it does not hold so many.
+// The values' bytes in the place of the words from the one numbered i on; b stays where it does not hold so many: i + n, asked
+// without an overflow.
 pub fn put_values_at<W: Word>(b: &mut [u8], i: usize, xs: &[W]) -> Result<(), Refused>
     ensures { replied result b.new
         ≡ reply_if (holds b.old i (length xs.now))

@@ -15,7 +15,7 @@ pub(crate) fn noise_made(s: State, history: &mut [f32]) -> Made
     ensures { (result ≡ noise_made s) × (history.new ≡ with_tails history.old (tails_by_noise s (tails history.old))) }
 {
     let k = s.settings;
-    // By `as`, here and where a path counts by settings: std has no `From` of a word to usize.
+    // By `as`: std has no `From` of a word to usize.
     let coarse = lower_energies(
         s.coarse,
         k.channels as usize,

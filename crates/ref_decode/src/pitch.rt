@@ -19,6 +19,7 @@ pub(crate) fn pitch_made(s: State, history: &mut [f32]) -> Made
         × (history.new ≡ with_tails history.old (tails_by_pitch s (pitch_made s history.old) (tails history.old))) }
 {
     let first = s.loss_count == 0;
+    // an array field goes into a tuple or a struct literal by a variable, here and below: straight in one it is not covered by the check
     let carried = s.predictor;
     let (lag, predictor) = if first {
         let two = s.settings.is_stereo();
@@ -35,7 +36,6 @@ pub(crate) fn pitch_made(s: State, history: &mut [f32]) -> Made
         filter: s.filter,
     };
     pitch_loss(s.settings, history, pitch).unwrap();
-    // a field that is an array goes into the answer by a variable: straight in the literal it is not covered by the check
     let coarse = s.coarse;
     Made {
         kind: Kind::Pitch,

@@ -60,7 +60,7 @@ pub struct Answer {
 const ACCEPTED: u32 = 0;
 
 // What a refused call has for a kind, and for a sample count.
-const NONE: u32 = 0;
+const NOTHING: u32 = 0;
 
 // What a call answers, as document 01's three words, which C and a record's head have: number, kind and sample count. (A sample
 // count past 32 bits, which no call has, becomes the greatest of them.)
@@ -75,7 +75,7 @@ pub fn report(call: &Result<Answer, Refusal>) -> [u32; 3]
             u32::from(a.kind),
             u32::try_from(a.samples).unwrap_or(u32::MAX),
         ],
-        Err(e) => [u32::from(*e), NONE, NONE],
+        Err(e) => [u32::from(*e), NOTHING, NOTHING],
     }
 }
 

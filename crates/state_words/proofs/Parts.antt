@@ -7,41 +7,7 @@ use lib.ListN.{length}
 use lib.Dec.{T, ltb, lit<, lit≤}
 use lib.Ieee.{Float, binary32, of_bits}
 use Rattle.loops.specs.Front.{length-tab, tab-same}
-use Rattle.post_filter.specs.declared.Filter.{Filter}
-use Rattle.settings.specs.declared.Settings.{Settings}
 use Rattle.state_words.specs.Words.{state_length, floats_by, settings_by, filter_by, state_by, float_words}
-
--- ---- read field by field, from the words w 0, w 1, ..
-
-pub filter_parts : (w : ℕ → ℕ) {g : Float} → g ≡ of_bits binary32 (w 9) → record { gain = g; period = w 8; tapset = w 10 } ≡ filter_by w
-unfolding filter_by
-filter_parts w e = λ i. record { gain = e i; period = w 8; tapset = w 10 }
-
-pub state-parts : (w : ℕ → ℕ) {k : Settings} {f : Filter} {coarse background memories predictor : List Float}
-    → k ≡ settings_by w → f ≡ filter_by w → coarse ≡ floats_by w 11 50 → background ≡ floats_by w 61 50 → memories ≡ floats_by w 111 2 → predictor ≡ floats_by w 113 48
-    → record {
-      settings = k;
-      loss_count = w 5;
-      seed = w 6;
-      lag = w 7;
-      filter = f;
-      coarse = coarse;
-      background = background;
-      memories = memories;
-      predictor = predictor;
-    } ≡ state_by w
-unfolding state_by
-state-parts w k f p q r t = λ i. record {
-  settings = k i;
-  loss_count = w 5;
-  seed = w 6;
-  lag = w 7;
-  filter = f i;
-  coarse = p i;
-  background = q i;
-  memories = r i;
-  predictor = t i;
-}
 
 -- equal words are one state
 pub state-same : (w v : ℕ → ℕ) → ((i : ℕ) → i < state_length → w i ≡ v i) → state_by w ≡ state_by v
@@ -60,8 +26,6 @@ state-same w v e =
       memories = floats 111 2 (lit≤ tt) i;
       predictor = floats 113 48 (lit≤ tt) i;
     }
-
--- ---- written
 
 pub length-floats : (xs : List Float) → length (float_words xs) ≡ length xs
 unfolding float_words

@@ -4,7 +4,7 @@
 #![tactic(auto)]
 
 ghost use Rattle.std.specs.Prelude.{◌≡◌, ◌+◌, ◌≤◌};
-ghost use Rattle.state_words.specs.Words.{state_length, floats_by, settings_by, filter_by, word_in, state_in};
+ghost use Rattle.state_words.specs.Words.{state_length, floats_by, word_in, state_in};
 
 use custom_mode::standard::ENERGIES;
 use float_bits::words::Word;
@@ -28,30 +28,6 @@ pub const PREDICTOR: usize = MEMORIES + 2;
 // The words of a state. The history follows them in a record.
 pub const WORDS: usize = PREDICTOR + 2 * ORDER;
 
-#[tactic(auto, unfolding(crate::specs::Words::settings_by))]
-fn settings_in(w: &[u32; WORDS]) -> Settings
-    ensures { result ≡ settings_by (word_in w.now) }
-{
-    Settings {
-        lm: w[0],
-        channels: w[1],
-        start: w[2],
-        end: w[3],
-        downsample: w[4],
-    }
-}
-
-#[tactic(auto, unfolding(crate::specs::Words::filter_by))]
-fn filter_in(w: &[u32; WORDS]) -> Filter
-    ensures { result ≡ filter_by (word_in w.now) }
-{
-    Filter {
-        gain: f32::from_word(w[9]),
-        period: w[8],
-        tapset: w[10],
-    }
-}
-
 // The floats of the words from the one numbered i on: an array at once, where the record's bytes, `words`, are read into what is lent.
 fn floats_in<const N: usize>(w: &[u32; WORDS], i: usize) -> [f32; N]
     requires { i + N ≤ state_length }
@@ -64,12 +40,23 @@ fn floats_in<const N: usize>(w: &[u32; WORDS], i: usize) -> [f32; N]
 pub fn from_words(w: &[u32; WORDS]) -> State
     ensures { result ≡ state_in w.now }
 {
+    let [lm, channels, start, end, downsample, loss_count, seed, lag, period, gain, tapset, ..] = *w;
     State {
-        settings: settings_in(w),
-        loss_count: w[5],
-        seed: w[6],
-        lag: w[7],
-        filter: filter_in(w),
+        settings: Settings {
+            lm,
+            channels,
+            start,
+            end,
+            downsample,
+        },
+        loss_count,
+        seed,
+        lag,
+        filter: Filter {
+            period,
+            gain: f32::from_word(gain),
+            tapset,
+        },
         coarse: floats_in(w, COARSE),
         background: floats_in(w, BACKGROUND),
         memories: floats_in(w, MEMORIES),

@@ -1,5 +1,5 @@
 // The functions that programs in other languages link: `include/vikkozhan.h` declares them, so numbers stand for kinds, a count
-// beside a buffer, and 161 words, by the header's own number, for a state.
+// beside a buffer, and 161 words for a state: by number, as the header writes it.
 
 #![tactic(auto)]
 
@@ -9,8 +9,8 @@ ghost use Rattle.answer_head.specs.Head.{headed};
 ghost use Rattle.answer.specs.Answer.{with_record, answer_record};
 ghost use Rattle.vikkozhan.specs.Version.{version_number};
 
-// 1.0.0: the structs and functions of a header are the library's while the first number is the same.
-const VERSION: u32 = 65_536;
+// 1.0.0, the first number times 2^16: the structs and functions of a header are the library's while that number is the same.
+const VERSION: u32 = 1 << 16;
 
 #[unsafe(no_mangle)]
 pub extern "C" fn vikkozhan_version() -> u32

@@ -5,10 +5,14 @@ use mathlib.Core.List.{List, [], ◌∷◌, ◌++◌}
 use Prim.Native.Nat.{ℕ, suc, min, ◌+◌, ◌*◌, ◌/◌, ◌%◌, ◌≤◌, ◌<◌}
 use native.Mathlib.Omega.{arith}
 use native.Mathlib.Nat.{div-one}
-use Rattle.std.proofs.Common.{append_assoc}
+use Rattle.std.proofs.Common.{append_assoc, None, Some}
 use lib.ListN.{length, get_or}
 use Rattle.std.specs.Int.{w32, to_le_bytes}
 use Rattle.std.specs.Simd.{first_chunks}
+use Rattle.std.specs.Option.{MatchOption}
+use Rattle.std.specs.Slice.{IsItemAt}
+use Rattle.std.specs.declared.option.Option.{Option}
+use denote.Bor.{Bor}
 use lib.Dec.{leb}
 use borrow.Author.Tests.{le-leb, lt-leb, leb-true, leb-false}
 use Rattle.loops.specs.Chunks.{chunk_at}
@@ -52,6 +56,13 @@ module _ (b : List ℕ) (i : ℕ) where
       let z : 4 * i + 0 ≡ 4 * i = omega arith in
       let d0 : get_or w 0 0 ≡ get_or b (4 * i) 0 = d 0 (omega arith) ∙ ap (λ k. get_or b k 0) z in
       omega (arith, d0, d 1 (omega arith), d 2 (omega arith), d 3 (omega arith), word_in (omega arith))
+
+  -- of its bytes, where it has been looked for
+  pub word_found : (o : Option (Bor (List ℕ))) (r : ℕ) (ws : List (List ℕ)) (P : Bor (List ℕ) → Type 0) → ws ≡ first_chunks 4 (length b / 4) b
+      → length ws ≡ length b / 4 → IsItemAt ws i o → MatchOption o (r ≡ 0) P
+      → ((x : Bor (List ℕ)) → P x → r ≡ get_or x.now 0 0 + get_or x.now 1 0 * 256 + get_or x.now 2 0 * 65536 + get_or x.now 3 0 * 16777216) → r ≡ word_at b i
+  word_found None r ws P q l h m e = m ∙ sym (word-past (omega (arith, l, h.3)))
+  word_found (Some x) r ws P q l h m e = e x m ∙ word_of_bytes (length b / 4) x.now (omega (arith, l, h.3.0)) refl (h.4 (omega arith) [] ∙ ap (λ z. get_or z i []) q)
 
 -- past the last word every word reads the same
 word_same : (b : List ℕ) (i m n : ℕ) → length b ≤ n → m ≡ min i n → word_at b m ≡ word_at b i

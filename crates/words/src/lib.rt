@@ -12,13 +12,10 @@ pub fn word_at(b: &[u8], i: usize) -> u32
     ensures { result ≡ word_at b.now i }
 {
     let (words, _) = b.as_chunks::<4>();
-    match words.get(i) {
-        Some(word) => u32::from_le_bytes(*word),
-        None => 0,
-    }
+    words.get(i).map_or(0, |word| u32::from_le_bytes(*word))
 }
 
-// The values of the words from the one numbered i on. The numbers stop at the greatest, at which no list has a word.
+// The values of the words from the one numbered i on. i + k stops at usize::MAX: no list is that long.
 // By number: past b's end a word is 0, and a zip with b's words would leave the value as it was. Into what is lent, as long as it
 // is: a history of 17 kB; `state_words` makes short arrays out of words in memory instead.
 pub fn values_at<W: Word>(b: &[u8], i: usize, out: &mut [W])

@@ -1,15 +1,10 @@
 -- `word_at` meets its contract: four bytes make a word.
-use Rattle.std.proofs.Common.{◌/◌, [], length, get_or, arith, ap, sym, refl, ◌∙◌}
-use Rattle.words.proofs.Laws.{word-past, word_of_bytes}
+use Rattle.std.proofs.Common.{rules}
+use Rattle.words.proofs.Laws.{word_found}
 use Rattle.words.proofs.word_at.Goals as goal
 
-pub returns-in-Some : goal.returns-in-Some
-returns-in-Some c =
+pub returns : goal.returns
+returns c =
     let a = c.args in
-    let q = c.as_chunks.ensures in
-    let h = c.in-Some.ensures.lookup.3 in
-    c.from_le_bytes.ensures
-    ∙ word_of_bytes a.b.now a.i (length a.b.now / 4) c.in-Some.word.now (omega arith) refl (h.1 [] ∙ ap (λ z. get_or z a.i []) q.front)
-
-pub returns-in-None : goal.returns-in-None
-returns-in-None c = let a = c.args in let q = c.as_chunks.ensures in let h = c.in-None.ensures.lookup.3 in sym (word-past a.b.now a.i (omega arith))
+    let q = c.as_chunks in
+    word_found a.b.now a.i c.get.result c.map_or.result q.result.0.now _ q.ensures.front q.ensures.front_len c.get.ensures.lookup c.map_or.ensures (λ x p. search rules)
