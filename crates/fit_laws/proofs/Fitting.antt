@@ -24,8 +24,21 @@ use Rattle.noise_loss.specs.Loss.{noise_blocks, noise_seed}
 use Rattle.deemphasis.specs.Deemphasis.{length_memories}
 use Rattle.finish.specs.declared.Made.{Made}
 use Rattle.loss.specs.Loss.{
-  lowered, blocks, noise_made, pitch_made, made, tails_by_noise, tails_by_pitch, tails_after, history_after, frame_sound, finish, concealed, refused,
-  answered, loss,
+  lowered,
+  blocks,
+  noise_made,
+  pitch_made,
+  made,
+  tails_by_noise,
+  tails_by_pitch,
+  tails_after,
+  history_after,
+  frame_sound,
+  finish,
+  concealed,
+  refused,
+  answered,
+  loss,
 }
 use Rattle.loss.proofs.Fields.{made_lag}
 use Rattle.loss.proofs.Keep.{after-length}

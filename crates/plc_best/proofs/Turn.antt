@@ -57,7 +57,7 @@ get_or-in_step xcorr y len i k x oldest newest h l e =
       ap (λ u. u.0) q ∙ get_or_default xcorr k x nan g,
       ap (λ u. u.1) q ∙ get_or_default y k oldest nan (omega arith),
       ap (λ u. u.1) p ∙ get_or_default w k newest nan (omega arith) ∙ get_or-take (length y - len) (drop len y) k nan (omega arith) ∙ get_or-drop len y k nan
-      ∙ ap (λ m. get_or y m nan) s,
+          ∙ ap (λ m. get_or y m nan) s,
     )
 
 module _ (xcorr y : List Float) (len : ℕ) where

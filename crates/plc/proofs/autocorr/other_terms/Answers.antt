@@ -22,8 +22,7 @@ loop-v-preserved c =
     let r : length h.row ≡ c.loop-j.j = search rules in
     let l : length h.row ≡ n = search rules in
     let p : k + 1 ≡ _ = sym (length_push h.yielded (c.in-Some.v, c.in-Some.part)) in
-    let q : n - 1 + k + 1 ≡ n - 1 + _ = omega (arith, p) in
-    (
+    let q : n - 1 + k + 1 ≡ n - 1 + _ = omega (arith, p) in (
       t.1 ∙ ap (λ m. drop m x) q,
       s.1.0 ∙ i.1,
       s.1.1.2 ∙ ap (drop 1) i.2 ∙ drop-drop 1 k x ∙ ap (λ m. drop m x) p,
