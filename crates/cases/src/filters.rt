@@ -19,7 +19,7 @@ const WHITENED: usize = WHITENING + 1;
 // Beside a frame's cosine sum: what a step asks of its sizes is required here, and one function for both would have to require it of
 // any step.
 fn answer_lpc<const TAPS: usize, const LAGS: usize>(wire: &mut Wire) -> io::Result<()>
-    requires { (TAPS ≤ 24) × (LAGS ≡ TAPS + 1) }
+    requires { (TAPS ≤ ORDER) × (LAGS ≡ TAPS + 1) }
 {
     let ac = wire.read::<[f32; LAGS]>()?;
     let mut coefficients = [0.0f32; TAPS];
@@ -28,7 +28,7 @@ fn answer_lpc<const TAPS: usize, const LAGS: usize>(wire: &mut Wire) -> io::Resu
 }
 
 fn answer_fir<const TAPS: usize>(wire: &mut Wire) -> io::Result<()>
-    requires { TAPS ≤ 24 }
+    requires { TAPS ≤ ORDER }
 {
     let mut x = wire.read::<[f32; HALF]>()?;
     let num = wire.read::<[f32; TAPS]>()?;

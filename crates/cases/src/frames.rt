@@ -1,6 +1,6 @@
 // Op 701: the de-emphasis of one frame.
 use crate::streams::Wire;
-use cosine_circle::FRAME_MOST;
+use custom_mode::standard::FRAME_MOST;
 use deemphasis_mono::deemphasis_mono;
 use deemphasis_stereo::deemphasis_stereo;
 use sizes::frame_size;

@@ -1,7 +1,6 @@
 // Ops 901 to 903: steps of the noise path. A step that is refused leaves the seed as it is.
 use crate::streams::Wire;
-use cosine_circle::FRAME_MOST;
-use custom_mode::standard::MAX_BANDS;
+use custom_mode::standard::{FRAME_MOST, MAX_BANDS};
 use history::OVERLAP;
 use noise_block::{BLOCK_MOST, noise_block};
 use noise_energies::lower_energies;

@@ -44,7 +44,7 @@ fn answer_best<const SWEEP: usize, const REACHED: usize>(
     wire: &mut Wire,
     len: usize,
 ) -> io::Result<()>
-    requires { (SWEEP ≤ 310) × (REACHED ≤ 1024) × (len + SWEEP ≤ REACHED) }
+    requires { (SWEEP ≤ PLACES) × (REACHED ≤ HALF) × (len + SWEEP ≤ REACHED) }
 {
     let xcorr = wire.read::<[f32; SWEEP]>()?;
     let y = wire.read::<[f32; REACHED]>()?;

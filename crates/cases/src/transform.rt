@@ -5,6 +5,7 @@ ghost use Rattle.cosine_circle.specs.Circle.{is_frame_size};
 use crate::streams::{Value, Wire};
 use celt_window::{low_overlap_window, window};
 use cosine_table::cosines;
+use custom_mode::standard::FRAME_MOST;
 use mdct::imdct::imdct_naive_f32;
 use mdct_mirrored::imdct_mirrored_f32;
 use sizes::frame_size;
@@ -22,7 +23,7 @@ fn answer_entry<V: Value>(wire: &mut Wire, table: &[V]) -> io::Result<bool> {
 
 // The bins of a frame to twice as many samples. Both sizes: no array length is computed from a const parameter.
 fn answer_sum<const BINS: usize, const SAMPLES: usize>(wire: &mut Wire) -> io::Result<()>
-    requires { (BINS ≤ 960) × (is_frame_size BINS ≡ true) × (SAMPLES ≡ 2 * BINS) }
+    requires { (BINS ≤ FRAME_MOST) × (is_frame_size BINS ≡ true) × (SAMPLES ≡ 2 * BINS) }
 {
     let spectrum = wire.read::<[f32; BINS]>()?;
     let mut out = [0.0f32; SAMPLES];
@@ -33,7 +34,7 @@ fn answer_sum<const BINS: usize, const SAMPLES: usize>(wire: &mut Wire) -> io::R
 // The same by half of the sums. Apart: one for both would take the step as a closure and its count of products as an
 // `Option`, and be longer than the two.
 fn answer_mirrored<const BINS: usize, const SAMPLES: usize>(wire: &mut Wire) -> io::Result<()>
-    requires { (BINS ≤ 960) × (is_frame_size BINS ≡ true) × (SAMPLES ≡ 2 * BINS) }
+    requires { (BINS ≤ FRAME_MOST) × (is_frame_size BINS ≡ true) × (SAMPLES ≡ 2 * BINS) }
 {
     let spectrum = wire.read::<[f32; BINS]>()?;
     let mut out = [0.0f32; SAMPLES];
