@@ -33,7 +33,8 @@ impl Half<'_> {
         if u < n / 2 { u } else { n - 1 - u }
     }
 
-    // Output u of the first half, odd about its middle: past it, the sum with its sign turned.
+    // Output u of the first half, odd about its middle: past it, the sum with its sign turned. By 0 less it, not `-`: of a zero sum
+    // that is +0, as the direct sum has it.
     #[tactic(auto, using(crate::proofs::Halves::odd_before, crate::proofs::Halves::odd_past), unfolding(mdct::specs::Imdct::half_of, float_sign::specs::Turned::turned))]
     fn odd_output(self, u: usize) -> f32
         requires { u < length self.sums.now }

@@ -12,7 +12,8 @@ ghost use Rattle.mdct_pairs.specs.Inputs.{inputs_of};
 use mdct::imdct::wrapped;
 use std::array::from_fn;
 
-// Four pairs of sums, and how many products were made for them.
+// Four pairs of sums, and how many products were made for them: counted as they are made, since document 01 asks for the count in
+// the result.
 #[derive(Clone, Copy)]
 pub(crate) struct Sums {
     pub(crate) sums: [f64; 8],

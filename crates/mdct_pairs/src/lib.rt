@@ -9,7 +9,7 @@ ghost use Rattle.mdct_pairs.specs.Pairs.{pair_reply, summed};
 ghost use Rattle.mdct_work.specs.Work.{values, total, pair_sums};
 
 use cosine_circle::{FRAME_LEAST, FRAME_MOST, is_frame_size};
-use cosine_pairs::fill_pairs;
+use cosine_pairs::{PLACES, fill_pairs};
 use inputs::fill_inputs;
 use lanes::Tables;
 use reply::Refused;
@@ -18,11 +18,11 @@ mod inputs;
 mod lanes;
 
 // The places of both tables, for the shortest frame and for the longest: by names, since a const argument is no product.
-const LEAST_PAIRS: usize = 12 * FRAME_LEAST;
+const LEAST_PAIRS: usize = PLACES * FRAME_LEAST;
 
 const LEAST_INPUTS: usize = 2 * FRAME_LEAST;
 
-const MOST_PAIRS: usize = 12 * FRAME_MOST;
+const MOST_PAIRS: usize = PLACES * FRAME_MOST;
 
 const MOST_INPUTS: usize = 2 * FRAME_MOST;
 
@@ -33,8 +33,8 @@ fn sums_by_tables(
     spectrum: &[f32],
     sums: &mut [f64],
 ) -> usize
-    requires spectrum_value { is_frame_size (length spectrum.now) ≡ true }
-    requires pairs_len { (length pairs.old ≡ 12 * length spectrum.now) × (length inputs.old ≡ 2 * length spectrum.now)
+    requires frame { is_frame_size (length spectrum.now) ≡ true }
+    requires rooms { (length pairs.old ≡ PLACES * length spectrum.now) × (length inputs.old ≡ 2 * length spectrum.now)
         × (length sums.old ≡ length spectrum.now) }
     ensures { (sums.new ≡ values (pair_sums (length spectrum.now) spectrum.now))
         × (result ≡ total (pair_sums (length spectrum.now) spectrum.now)) }
@@ -52,8 +52,8 @@ fn sums_by_tables(
 // The sums, with room for the tables of every frame whose cosines take at most P places and whose inputs at most I. Two numbers,
 // since no array's length is computed from a const parameter.
 fn sums_within<const P: usize, const I: usize>(spectrum: &[f32], sums: &mut [f64]) -> usize
-    requires spectrum_value { is_frame_size (length spectrum.now) ≡ true }
-    requires tables { (12 * length spectrum.now ≤ P) × (P ≤ 11520) × (2 * length spectrum.now ≤ I) × (I ≤ 1920) }
+    requires frame { is_frame_size (length spectrum.now) ≡ true }
+    requires rooms { (PLACES * length spectrum.now ≤ P) × (P ≤ MOST_PAIRS) × (2 * length spectrum.now ≤ I) × (I ≤ MOST_INPUTS) }
     requires sums_len { length sums.old ≡ length spectrum.now }
     ensures { (sums.new ≡ values (pair_sums (length spectrum.now) spectrum.now))
         × (result ≡ total (pair_sums (length spectrum.now) spectrum.now)) }
@@ -61,7 +61,7 @@ fn sums_within<const P: usize, const I: usize>(spectrum: &[f32], sums: &mut [f64
     let n = spectrum.len();
     let mut pairs = [0.0f64; P];
     let mut inputs = [0.0f64; I];
-    sums_by_tables(&mut pairs[..12 * n], &mut inputs[..2 * n], spectrum, sums)
+    sums_by_tables(&mut pairs[..PLACES * n], &mut inputs[..2 * n], spectrum, sums)
 }
 
 // Half of the sums of n inputs, n one of the four frame sizes: of outputs t and n + t side by side, for t below n / 2. Answers

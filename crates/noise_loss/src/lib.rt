@@ -20,7 +20,8 @@ use settings::Settings;
 use settings::checks::settings_pass;
 use sizes::frame_size;
 
-// One channel with its overlap, from its 25 energies; the seed after its block.
+// One channel with its overlap, from its 25 energies; the seed after its block. The channel is a slice: `split_at_mut` lends both
+// at once, and for an array each would be taken apart once more.
 fn noise_channel(part: &mut [f32], k: Settings, seed: u32, energies: &[f32; MAX_BANDS]) -> u32
     requires { (check_settings k ≡ 0) × (length part.old ≡ channel) }
     ensures { (result ≡ (channel_block k seed energies.now).seed)

@@ -9,12 +9,12 @@ use Rattle.mdct_pairs.proofs.pair_sums.Goals as goal
 
 pub sums_within-requires : goal.sums_within-requires
 sums_within-requires c =
-    record { spectrum_value = sym c.is_frame_size.ensures ∙ c.if-not-is_frame_size.false; tables = omega arith; sums_len = c.if-sums-n.false }
+    record { frame = sym c.is_frame_size.ensures ∙ c.if-not-is_frame_size.false; rooms = omega arith; sums_len = c.if-sums-n.false }
 
 pub sums_within-requires-else-n-eq-FRAME_LEAST : goal.sums_within-requires-else-n-eq-FRAME_LEAST
 sums_within-requires-else-n-eq-FRAME_LEAST c =
     let f = sym c.is_frame_size.ensures ∙ c.if-not-is_frame_size.false in
-    record { spectrum_value = f; tables = omega (arith, few _ f); sums_len = c.if-sums-n.false }
+    record { frame = f; rooms = omega (arith, few _ f); sums_len = c.if-sums-n.false }
 
 pub returns-then-n-eq-FRAME_LEAST : goal.returns-then-n-eq-FRAME_LEAST
 unfolding pair_reply
