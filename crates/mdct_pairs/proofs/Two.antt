@@ -1,9 +1,14 @@
 -- A turn of `lanes::four`: with two inputs every lane goes two steps on and is taken back into the circle, and each sum gets two terms more.
-use mathlib.Core.Path.{◌≡◌, refl, ap, ◌∙◌}
-use mathlib.Core.Bool.{true}
+use mathlib.Core.Path.{◌≡◌, refl, ap, ◌∙◌, sym}
+use mathlib.Core.Bool.{true, cond}
+use mathlib.Core.Logic.{inl, inr}
 use mathlib.Core.List.{List, [], ◌∷◌}
-use Prim.Native.Nat.{ℕ, zero, suc, ◌+◌, ◌≤◌, ◌<◌, ◌*◌, ◌/◌, ◌%◌}
+use Prim.Native.Nat.{ℕ, zero, suc, ◌+◌, ◌≤◌, ◌<◌, ◌*◌, ◌/◌, ◌%◌, ◌-◌}
 use native.Mathlib.Omega.{arith}
+use lib.Dec.{ltb}
+use Rattle.std.proofs.Common.{lt-ltb, le-ltb}
+use Rattle.std.proofs.Math.Nat.{mod-eq_of_lt, mod-eq-sub-mod}
+use Rattle.std.proofs.lemmas.Bool.{cases_lt}
 use lib.ListN.{length, get_or}
 use lib.Ieee.{Float, nan, binary64, add, mul}
 use Rattle.loops.specs.Front.{tab, tab-same, length-tab}
@@ -62,6 +67,16 @@ two-of inputs h s a b p q (suc (suc j)) l = let z : ⊥ = omega arith in absurd 
 -- sum j of the frame
 abbrev pub pair_sum : ℕ → List Float → ℕ → Float
 pair_sum n x j = imdct_sum n x (j / 2 + j % 2 * n)
+
+-- a place back in a circle of w places
+abbrev pub wrap : ℕ → ℕ → ℕ
+wrap w i = cond (ltb i w) i (i - w)
+
+wrap-is : (w i : ℕ) → i < 2 * w → wrap w i ≡ i % w
+wrap-is w i h = elim (cases_lt i w) [
+  | inl l ↦ ap (λ z. cond z i (i - w)) (lt-ltb i w l) ∙ sym (mod-eq_of_lt l)
+  | inr l ↦ ap (λ z. cond z i (i - w)) (le-ltb i w l) ∙ sym (mod-eq-sub-mod l ∙ mod-eq_of_lt (omega arith))
+]
 
 -- the places a step on
 abbrev pub stepped : ℕ → List ℕ → List ℕ
@@ -145,9 +160,11 @@ module _ {xs pairs inputs : List Float} {t h : ℕ} {at : List ℕ} {acc : List 
       lanes-2 : b₂ ≡ tab (λ (j : ℕ). 2 * (places n t (2 * h) j + step_of n t j + step_of n t j)) 4
       lanes-2 = moved n t size w.room (2 * h) _ _ lanes-1 s e _ g₂
 
-      pub small-2 : (j : ℕ) → j < 4 → get_or b₂ j 0 < 2 * (8 * n)
+      small-2 : (j : ℕ) → j < 4 → get_or b₂ j 0 < 2 * (8 * n)
       small-2 = before n t size w.room (2 * h) _ _ lanes-2 _ (third-small n t size w.room (2 * h))
 
       -- back in the circle
-      pub lanes-3 : (b₃ : List ℕ) → b₃ ≡ tab (λ (j : ℕ). get_or b₂ j 0 % (8 * n)) 4 → b₃ ≡ tab (λ (j : ℕ). 2 * places n t (2 * h + 1 + 1) j) 4
-      lanes-3 b₃ g₃ = turned n t size w.room (2 * h + 1 + 1) _ _ lanes-2 _ g₃ (third-on n t size w.room (2 * h))
+      pub lanes-3 : (b₃ : List ℕ) → b₃ ≡ tab (λ (j : ℕ). wrap (8 * n) (get_or b₂ j 0)) 4 → b₃ ≡ tab (λ (j : ℕ). 2 * places n t (2 * h + 1 + 1) j) 4
+      lanes-3 b₃ g₃ =
+          turned n t size w.room (2 * h + 1 + 1) _ _ lanes-2 _
+          (g₃ ∙ tab-same _ _ 4 (λ j i. wrap-is (8 * n) (get_or b₂ j 0) (small-2 j i))) (third-on n t size w.room (2 * h))

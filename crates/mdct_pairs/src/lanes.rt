@@ -35,8 +35,7 @@ fn add_terms(pairs: &[f64], inputs: [f64; 2], at: &[usize; 4], acc: &mut [f64; 8
     }
 }
 
-// Takes each of four places its step on, which for each output is four places more than for the one before. Here and in `around`
-// the loop is the whole function: one for both would say in its contract what a closure answers of each place.
+// Takes each of four places its step on, which for each output is four places more than for the one before.
 fn onward(step: usize, at: &mut [usize; 4])
     requires step_bound { step < 8000 }
     requires by_index { (j : ℕ) → j < 4 → get_or at.old j 0 < 16000 }
@@ -44,16 +43,6 @@ fn onward(step: usize, at: &mut [usize; 4])
 {
     for (j, place) in at.iter_mut().enumerate() {
         *place += step + 4 * j;
-    }
-}
-
-// Each of four places in a circle of w places.
-fn around(w: usize, at: &mut [usize; 4])
-    requires { (j : ℕ) → j < 4 → get_or at.old j 0 < 2 * w }
-    ensures { at.new ≡ tab (λ j. get_or at.old j 0 % w) 4 }
-{
-    for place in at.iter_mut() {
-        *place = wrapped(*place, w);
     }
 }
 
@@ -98,7 +87,7 @@ impl Tables<'_> {
             onward(step, &mut at);
             add_terms(self.pairs, [c, d], &at, &mut acc);
             onward(step, &mut at);
-            around(w, &mut at);
+            at = at.map(|place| wrapped(place, w));
             products += 16;
         }
         Sums {

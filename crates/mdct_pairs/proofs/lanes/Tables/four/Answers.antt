@@ -5,13 +5,15 @@ use native.Mathlib.Omega.{arith}
 use mathlib.Core.List.{[], ◌∷◌}
 use lib.ListN.{length, get_or}
 use lib.Ieee.{nan}
+use borrow.Author.Rules.{rules}
 use Rattle.loops.specs.Chunks.{chunk_at}
 use Rattle.loops.specs.Front.{tab}
+use Rattle.loops.specs.Mapped.{mapped}
 use Rattle.mdct.specs.Imdct.{imdct_sum}
 use Rattle.cosine_circle.proofs.Sizes.{sized, even, few}
 use Rattle.mdct_pairs.proofs.PairLanes.{sums, places-none}
 use Rattle.mdct.proofs.Lanes.{places, sums_none}
-use Rattle.mdct_pairs.proofs.Two.{short-step, Turn, turn, more-left, two-of, inputs-count, pairs-in, reads, small, reads-1, small-1, sums-2, small-2, lanes-3}
+use Rattle.mdct_pairs.proofs.Two.{short-step, Turn, turn, more-left, two-of, inputs-count, pairs-in, reads, small, reads-1, small-1, sums-2, wrap, lanes-3}
 use Rattle.mdct_pairs.proofs.lanes.Tables.four.Goals.{In-loop-four}
 use Rattle.mdct_pairs.proofs.lanes.Tables.four.Goals as goal
 
@@ -53,11 +55,6 @@ onward-requires-in-loop-four c =
       by_index = small-1 w _ _ refl c.onward.ensures;
     }
 
-pub around-requires : goal.around-requires
-around-requires c =
-    let w = begun (goal.at.around-requires c).In-loop-four in
-    small-2 w _ _ refl c.onward.ensures _ c.onward-in-loop-four.ensures
-
 pub loop-four-preserved : goal.loop-four-preserved
 loop-four-preserved c =
     let w = begun (goal.at.loop-four-preserved c).In-loop-four in
@@ -68,8 +65,9 @@ loop-four-preserved c =
     ∙ chunk_at 4 _ l.four-index j nan c.args.self.inputs.now (omega (arith, c.loop-four-test.true, c.as_chunks.ensures.front_len)) g in
     let u = two-of c.args.self.inputs.now l.four-index 0 _ _ (f 0 (omega arith)) (f 1 (omega arith)) in
     let v = two-of c.args.self.inputs.now l.four-index 2 _ _ (f 2 (omega arith)) (f 3 (omega arith)) in
+    let back = mapped _ (wrap (8 * n)) _ (λ x y q l. search rules) 4 _ _ 0 0 c.map-at.ensures.items in
     let two : 2 * l.four-index + 1 + 1 ≡ 2 * (l.four-index + 1) = omega arith in (
-      lanes-3 w _ _ refl c.onward.ensures _ c.onward-in-loop-four.ensures _ c.around.ensures
+      lanes-3 w _ _ refl c.onward.ensures _ c.onward-in-loop-four.ensures _ back
           ∙ ap (λ y. tab (λ (j : ℕ). 2 * places n c.args.t y j) 4) two,
       sums-2 w _ _ refl c.onward.ensures _ (_ ∷ _ ∷ []) u c.add_terms.ensures _ (_ ∷ _ ∷ []) v c.add_terms-in-loop-four.ensures
           ∙ ap (λ y. tab (sums n c.args.self.x.now c.args.t y) 8) two,
