@@ -49,7 +49,7 @@ impl Word for f32 {
     }
 }
 
-// The word read as signed and shifted right by 20, from -2,048 to 2,047.
+// The word read as signed and shifted right by 20, from -2,048 to 2,047. By `as`: std has no `From` of i32 to f32.
 pub fn noise_value(w: u32) -> f32
     ensures { result ≡ noise_value w }
 {

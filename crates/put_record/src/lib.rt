@@ -12,7 +12,7 @@ use record::{BYTES, HISTORY};
 use reply::Refused;
 use state::State;
 
-// The record of a state and its history. Other lengths than a record's and a history's leave b as it is.
+// The record of a state and its history. Other lengths than a record's and a history's leave b as it is: a slice, as C lends it.
 pub fn write_record(b: &mut [u8], s: State, history: &[f32]) -> Result<(), Refused>
     ensures { replied result b.new
         ≡ reply_if (writable b.old history.now) (record_of s history.now) b.old }

@@ -31,7 +31,7 @@ fn check_lag(start: u32, c: u32, lag: u32) -> Result<(), Refusal>
     Ok(())
 }
 
-// A state and its history's length.
+// A state and its history's length. By lengths, here and where the PCM buffer's is asked too: no sample of either is read.
 #[tactic(auto, using(settings::proofs::Table::exit_number), unfolding(crate::specs::Refusal::refuses_state, settings::specs::Number::or_else))]
 pub fn check_state(s: State, n: usize) -> Result<(), Refusal>
     ensures { number_in result ≡ refuses_state s n }
