@@ -1,5 +1,6 @@
 -- What the fields of a bit pattern stand for, in either format. Assumes nothing.
-use Rattle.std.proofs.Common.{◌≡◌, ℕ, zero, suc, ◌+◌, ◌*◌, ◌/◌, ◌%◌, ◌^◌, ◌<◌, Bool, cond, not, T, eqb, leb, sym, refl, subst, lt_irrefl, mul-one, eqb→eq}
+use Rattle.std.proofs.Common.{◌≡◌, ℕ, zero, suc, ◌+◌, ◌*◌, ◌/◌, ◌%◌, ◌^◌, ◌<◌, Bool, cond, not, T, eqb, leb}
+use Rattle.std.proofs.Common.{sym, refl, subst, lt_irrefl, mul-one, eqb→eq}
 use lib.Dec.{not_T, eqb-suc-zero}
 use lib.Ieee.{Float, nan, inf, Format, binary32, binary64, prec, low, hid, ones, top, odd, is_nan, of_fields, of_bits}
 use lib.Ieee.Bits.{cond_no}

@@ -1,9 +1,9 @@
 -- Words read as signed numbers, and what is no number. Assumes nothing.
-use Rattle.std.proofs.Common.{◌≡◌, ℕ, suc, ◌-◌, ◌*◌, ◌/◌, ◌^◌, ◌<◌, ◌≤◌, Bool, true, false, not, T, ltb, ℤ, pos, negsuc, w32, to_z, of_z}
-use Rattle.std.proofs.Common.{true≢false, sym, refl, ap, ◌∙◌, subst, arith, lt_of_lt_of_le, lt_of_le_of_lt, le_of_lt, le→leb, lt→ltb}
-use Rattle.std.proofs.Common.{div-lt_iff_lt-mul, to_z-of_z, ltb-true, ltb-false}
-use lib.Signed.{mag, shr_z, mag_shr}
-use lib.Ieee.{Float, nan, inf, fin, binary32, is_nan, of_bits, in_float}
+use Rattle.std.proofs.Common.{◌≡◌, ℕ, suc, ◌-◌, ◌^◌, ◌<◌, ◌≤◌, Bool, true, false, not, T, ltb, ℤ, w32, to_z, of_z}
+use Rattle.std.proofs.Common.{true≢false, sym, refl, ap, ◌∙◌, subst, arith, lt_of_le_of_lt}
+use Rattle.std.proofs.Common.{to_z-of_z, ltb-true, ltb-false}
+use lib.Signed.{shr_z, mag_shr}
+use lib.Ieee.{Float, nan, inf, fin, binary32, is_nan, of_bits}
 use mir.Facts.{to_z_pos, to_z-neg}
 use Rattle.float_bits.specs.Words.{signed}
 use Rattle.float_bits.specs.Noise.{signed-mag, signed_low, signed_high}
@@ -21,11 +21,6 @@ signed_is w l = go (ltb w (2 ^ 31)) refl
         let n : w ≡ 2 ^ 32 - suc (2 ^ 32 - 1 - w) = omega arith in
         ap (to_z w32) n ∙ to_z-neg w32 (2 ^ 32 - 1 - w) k ∙ sym (signed_high w h l)
 
-held : (n : ℕ) (z : ℤ) → 0 < n → mag z < 2 ^ 31 → 2 ^ 31 ≤ 2 ^ 24 * n → T (in_float binary32 (shr_z z n))
-unfolding in_float
-held n (pos a) p h k = le→leb (a / n) (2 ^ 24) (le_of_lt ((div-lt_iff_lt-mul p).1 (lt_of_lt_of_le h k)))
-held n (negsuc a) p h k = lt→ltb (a / n) (2 ^ 24) ((div-lt_iff_lt-mul p).1 (lt_of_lt_of_le h k))
-
 -- the machine's shift of what it holds, by n = 2 ^ k
 module _ (w n : ℕ) (z : ℤ) (l : w < 2 ^ 32) (e : z ≡ signed w) where
   pub shifted : to_z w32 (of_z w32 (shr_z (to_z w32 (of_z w32 z)) n)) ≡ shr_z (signed w) n
@@ -33,10 +28,6 @@ module _ (w n : ℕ) (z : ℤ) (l : w < 2 ^ 32) (e : z ≡ signed w) where
       ap (λ (v : ℤ). to_z w32 (of_z w32 (shr_z (to_z w32 (of_z w32 v)) n))) e
       ∙ ap (λ (v : ℤ). to_z w32 (of_z w32 (shr_z v n))) (to_z-of_z {w = w32} {z = signed w} (record { sfits = signed-mag w l }))
       ∙ to_z-of_z {w = w32} {z = shr_z (signed w) n} (record { sfits = lt_of_le_of_lt (mag_shr (signed w) n) (signed-mag w l) })
-
-  -- far enough to be exact as an f32
-  pub shift-held : 0 < n → 2 ^ 31 ≤ 2 ^ 24 * n → T (in_float binary32 (to_z w32 (of_z w32 (shr_z (to_z w32 (of_z w32 z)) n))))
-  shift-held p h = subst (λ (v : ℤ). T (in_float binary32 v)) (sym shifted) (held n (signed w) p (signed-mag w l) h)
 
 -- ---- no number
 pub nan-bits : of_bits binary32 0x7fc0_0000 ≡ nan

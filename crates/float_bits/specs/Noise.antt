@@ -1,5 +1,6 @@
 -- The noise values' ends: no word gives less than -2,048 or more than 2,047, both are reached, and each value is exact as an f32.
-use Rattle.std.specs.Prelude.{◌≡◌, ℕ, suc, ◌-◌, ◌^◌, ◌<◌, ◌≤◌, Bool, true, false, not, T, ℤ, pos, negsuc, neg_ℤ, ◌≤ℤ◌, nat_lt, unsigned_abs, refl}
+use Rattle.std.specs.Prelude.{◌≡◌, ℕ, suc, ◌-◌, ◌^◌, ◌<◌, ◌≤◌, Bool, true, false, not, T, nat_lt, refl}
+use Rattle.std.specs.Prelude.{ℤ, pos, negsuc, neg_ℤ, ◌≤ℤ◌, unsigned_abs}
 use Rattle.std.proofs.Common.{sym, ap, ◌∙◌, subst, arith, le→leb, lt→ltb, lt-ltb, le-ltb, ltb-true, ltb-false}
 use Rattle.std.specs.Int.Signed.{mag, shr_z, non_neg, le_z_yes}
 use Rattle.std.specs.Float.{binary32}

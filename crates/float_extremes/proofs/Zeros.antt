@@ -1,8 +1,8 @@
 -- Which of two equal values `min_of` and `max_of` take shows only at two zeros of unlike sign, and no step meets those:
 -- see `Settled`. Assumes nothing.
 use mathlib.Core.Path.{◌≡◌, refl, sym, ap, ◌∙◌, subst}
-use Prim.Native.Nat.{ℕ, zero, suc, ◌+◌, ◌-◌, ◌*◌, ◌/◌, ◌^◌, ◌≤◌, ◌<◌}
-use native.Mathlib.Nat.{mul_right_comm, mul-pos, le_of_lt, lt_of_lt_of_le, zero-lt-suc}
+use Prim.Native.Nat.{ℕ, zero, suc, ◌+◌, ◌-◌, ◌*◌, ◌/◌, ◌^◌, ◌<◌}
+use native.Mathlib.Nat.{add_comm, le-add_left, le-add_right, mul_right_comm, mul-pos, le_of_lt, lt_of_lt_of_le, zero-lt-suc}
 use native.Mathlib.Omega.{arith}
 use mathlib.Core.Bool.{Bool, true, false, not, ◌&&◌, cond, true≢false}
 use lib.IntN.{ℤ}
@@ -21,7 +21,7 @@ is_zero nan = false
 is_zero (inf s) = false
 is_zero (fin s m e) = eqb m 0
 
--- ---- a value is written in one way
+-- ---- a value is written in one way: of any format this is float_bits' `same-value`, but this crate stands beside that, and not above
 same_bits : (s : Bool) (m n : ℕ) (e d : ℤ) → m * up e * down d ≡ n * up d * down e → to_bits binary32 (fin s m e) ≡ to_bits binary32 (fin s n d)
 unfolding to_bits
 same_bits s m n e d h =
@@ -57,17 +57,8 @@ sizes a b P l m e = go (ltb a b) refl (ltb b a) refl
 
 some_size : (m n u v w z : ℕ) → 0 < u → 0 < v → 0 < w → 0 < z → T (not (eqb m 0 && eqb n 0)) → 0 < m * u * w + n * v * z
 some_size zero zero u v w z A B C D h = absurd h
-some_size zero (suc n) u v w z A B C D h = lt_of_lt_of_le (mul-pos (mul-pos (zero-lt-suc n) B) D) (le-add (zero * u * w) (suc n * v * z))
-  where
-    le-add : (a b : ℕ) → b ≤ a + b
-    le-add a b = omega arith
-some_size (suc m) n u v w z A B C D h = lt_of_lt_of_le (mul-pos (mul-pos (zero-lt-suc m) A) C) (le-add (suc m * u * w) (n * v * z))
-  where
-    le-add : (a b : ℕ) → a ≤ a + b
-    le-add a b = omega arith
-
-swap : (a b : ℕ) → a + b ≡ b + a
-swap a b = omega arith
+some_size zero (suc n) u v w z A B C D h = lt_of_lt_of_le (mul-pos (mul-pos (zero-lt-suc n) B) D) (le-add_left (suc n * v * z) (zero * u * w))
+some_size (suc m) n u v w z A B C D h = lt_of_lt_of_le (mul-pos (mul-pos (zero-lt-suc m) A) C) (le-add_right (suc m * u * w) (n * v * z))
 
 order-fin : (s t : Bool) (m n : ℕ) (e d : ℤ) → T (fits binary32 (fin s m e)) → T (fits binary32 (fin t n d))
     → Apart (fin s m e) (fin t n d) → Order (fin s m e) (fin t n d)
@@ -84,7 +75,7 @@ order-fin true true m n e d f g p =
     (λ h. same (same-value true m n e d f g h))
 order-fin false true m n e d f g p =
     let z = some_size m n (up e) (up d) (down d) (down e) (up_pos e) (up_pos d) (down_pos d) (down_pos e) p in
-    more (lt-ltb 0 (n * up d * down e + m * up e * down d) (subst (λ (v : ℕ). 0 < v) (swap (m * up e * down d) (n * up d * down e)) z)) refl
+    more (lt-ltb 0 (n * up d * down e + m * up e * down d) (subst (λ (v : ℕ). 0 < v) (add_comm (m * up e * down d) (n * up d * down e)) z)) refl
 order-fin true false m n e d f g p =
     let z = some_size m n (up e) (up d) (down d) (down e) (up_pos e) (up_pos d) (down_pos d) (down_pos e) p in
     less (lt-ltb 0 (m * up e * down d + n * up d * down e) z) refl

@@ -5,8 +5,8 @@ use Prim.Native.Nat.{ℕ, zero, suc, ◌+◌, ◌-◌, ◌*◌, ◌/◌, ◌%◌
 use native.Mathlib.Nat.{add_assoc, mul_assoc, mul-one, zero-mul, mul-le-mul, mul-le-mul_right, le_of_mul-le-mul_right, lt_of_mul-lt-mul_right}
 use native.Mathlib.Nat.{le_trans, lt_of_lt_of_le, lt_of_le_of_lt, eq-or-lt_of_le, le-div_iff_mul-le, sub-add-eq-max}
 use native.Mathlib.Omega.{arith}
-use mathlib.Core.Bool.{Bool, true, false, not, ◌&&◌, cond}
-use lib.Dec.{T, leb, ltb, eqb, leb→le, nleb→lt, le→leb, lit≤, lit<}
+use mathlib.Core.Bool.{Bool, true, false, not, cond}
+use lib.Dec.{T, leb, leb→le, nleb→lt, le→leb, lit≤, lit<}
 use lib.Pow.{pow-add, pow_pos, pow_mono, shl_lt, shr_lt, shl-shr}
 use lib.IntN.{ℤ, pos, negsuc}
 use lib.Count.{count_trailing_zeros}
@@ -14,13 +14,13 @@ use lib.Ieee.{Float, nan, inf, fin, binary32, binary64, up, down, minus, size, o
 use lib.Ieee.Bits.{of_bits-fits}
 use lib.Ieee.Digits.{size-lt, size_reaches, size-le}
 use lib.Ieee.Nearest.{closest, closest_mono, nearest-ge}
-use lib.Ieee.Fits.{nearest-le, and_l, and_r, down_pos}
+use lib.Ieee.Fits.{nearest-le}
 use lib.Ieee.Exact.{HasValue}
-use lib.Ieee.Scale.{round_same}
 use Rattle.float_bits.proofs.Laws.{here_or_on, pow_lt_back, pow_le_back}
+use Rattle.float_bits.proofs.Values.{parts}
 use Rattle.float_narrow.specs.Narrow.{narrow}
 use Rattle.float_narrow.specs.Clause.{exact, overflows, last_digit, delivered, round_ties_to_even, clause}
-use Rattle.float_narrow.proofs.Laws.{regroup-two, size-at, round-at, units-inf, units-fin}
+use Rattle.float_narrow.proofs.Laws.{narrow_at, regroup-two, size-at, round-at, units-inf, units-fin}
 use Rattle.float_narrow.proofs.Nearer.{delivered-is}
 
 -- ---- the last digit
@@ -231,22 +231,8 @@ exact-val s zero e h = (refl, nothing)
         ∙ sym (ap (λ (z : ℕ). z * (2 ^ 1074 / down e) * down e) (zero-mul (up e))
         ∙ ap (λ (z : ℕ). z * down e) (zero-mul (2 ^ 1074 / down e)) ∙ zero-mul (down e))
 exact-val s (suc m) (pos k) h = (refl, exact-down (suc m) (pos k) refl)
-exact-val s (suc m) (negsuc k) h = (refl, exact-down (suc m) (negsuc k) (whole k (pow_le_back (suc k) 1074 (leb→le (2 ^ suc k) (2 ^ 1074) least-digit))))
-  where
-    odd-few : Bool
-    odd-few = eqb (suc m % 2) 1 && ltb (suc m) (2 ^ 53)
-
-    least-digit : T (leb (2 ^ suc k) (2 ^ 1074))
-    least-digit = and_r odd-few (leb (2 ^ suc k) (2 ^ 1074)) (and_l (odd-few && leb (2 ^ suc k) (2 ^ 1074)) (ltb (suc m * 1) (2 ^ 1024 * 2 ^ suc k)) h)
-
--- ---- narrow by the value
-narrow-val : (x : Float) (s : Bool) (a : ℕ) → HasValue x s a (2 ^ 1074) → narrow x ≡ round binary32 s a (2 ^ 1074)
-unfolding narrow
-narrow-val nan s a h = absurd h
-narrow-val (inf t) s a h = absurd h
-narrow-val (fin t m e) s a h =
-    ap (λ (z : Bool). round binary32 z (m * up e) (down e)) h.0
-    ∙ round_same binary32 s (m * up e) (down e) a (2 ^ 1074) (down_pos e) (pow_pos 1074) h.1
+exact-val s (suc m) (negsuc k) h =
+    (refl, exact-down (suc m) (negsuc k) (whole k (pow_le_back (suc k) 1074 (parts binary64 s (suc m) (negsuc k) h).fine)))
 
 -- ---- the theorem
 -- For every f64: what IEEE 754 tells is `narrow`, so its bits are too.
@@ -254,7 +240,7 @@ pub clause-narrow : (x : Float) → T (fits binary64 x) → clause x ≡ narrow 
 unfolding clause narrow
 clause-narrow nan h = refl
 clause-narrow (inf s) h = refl
-clause-narrow (fin s m e) h = ties-to-even-is s (exact m e) ∙ sym (narrow-val (fin s m e) s (exact m e) (exact-val s m e h))
+clause-narrow (fin s m e) h = ties-to-even-is s (exact m e) ∙ sym (narrow_at (fin s m e) s (exact m e) (2 ^ 1074) (pow_pos 1074) (exact-val s m e h))
 
 -- the same of every 64-bit word, a NaN's too
 pub clause-word : (b : ℕ) → to_bits binary32 (clause (of_bits binary64 b)) ≡ to_bits binary32 (narrow (of_bits binary64 b))
@@ -262,7 +248,7 @@ clause-word b = ap (to_bits binary32) (clause-narrow (of_bits binary64 b) (of_bi
 
 -- ---- the clause by the value
 pub clause-val : (x : Float) (s : Bool) (a : ℕ) → T (fits binary64 x) → HasValue x s a (2 ^ 1074) → clause x ≡ round_ties_to_even s a
-clause-val x s a h v = clause-narrow x h ∙ narrow-val x s a v ∙ sym (ties-to-even-is s a)
+clause-val x s a h v = clause-narrow x h ∙ narrow_at x s a (2 ^ 1074) (pow_pos 1074) v ∙ sym (ties-to-even-is s a)
 
 pub clause-inf : (s : Bool) → clause (inf s) ≡ inf s
 unfolding clause

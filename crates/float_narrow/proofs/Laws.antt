@@ -6,10 +6,13 @@ use mathlib.Core.Bool.{Bool, true, false, not, cond}
 use lib.Dec.{T, ltb, lt→ltb}
 use lib.Arith.{le→nltb}
 use lib.Pow.{pow-add, pow_pos, shl_lt, shr_lt}
-use lib.Ieee.{inf, binary32, size, odd, units, round}
-use lib.Ieee.Fits.{round_is}
+use lib.Ieee.{Float, nan, inf, fin, binary32, up, down, size, odd, units, round}
+use lib.Ieee.Fits.{round_is, down_pos}
+use lib.Ieee.Exact.{HasValue}
+use lib.Ieee.Scale.{round_same}
 use lib.Ieee.Nearest.{closest, closest_same}
 use Rattle.float_bits.proofs.Laws.{size_exact}
+use Rattle.float_narrow.specs.Narrow.{narrow}
 
 -- ---- sizes
 pub regroup-two : (q x b k sh : ℕ) → x + sh ≡ b + k → q * 2 ^ x * 2 ^ sh ≡ q * (2 ^ b * 2 ^ k)
@@ -52,3 +55,11 @@ units-fin s q k h = go (ltb (q * 2 ^ k) (2 ^ 277)) (lt→ltb (q * 2 ^ k) (2 ^ 27
     go : (b : Bool) → T b → cond b (odd 25 s q k 149) (inf s) ≡ odd 25 s q k 149
     go true t = refl
     go false t = absurd t
+
+-- ---- narrow, of a fraction
+pub narrow_at : (x : Float) (s : Bool) (a c : ℕ) → 0 < c → HasValue x s a c → narrow x ≡ round binary32 s a c
+unfolding narrow
+narrow_at nan s a c C h = absurd h
+narrow_at (inf t) s a c C h = absurd h
+narrow_at (fin t m e) s a c C h =
+    ap (λ (z : Bool). round binary32 z (m * up e) (down e)) h.0 ∙ round_same binary32 s (m * up e) (down e) a c (down_pos e) C h.1

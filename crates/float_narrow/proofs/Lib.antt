@@ -1,4 +1,4 @@
-mod Laws
+pub mod Laws
 mod Nearer
 mod Clause
 mod Magnitude

@@ -3,7 +3,7 @@
 -- and `grid` of them is what it is rounded to. Assumes nothing.
 use mathlib.Core.Path.{◌≡◌, refl, sym, ap, ◌∙◌, subst}
 use mathlib.Core.Logic.{◌⊎◌, inl, inr}
-use Prim.Native.Nat.{ℕ, zero, suc, ◌+◌, ◌-◌, ◌*◌, ◌/◌, ◌%◌, ◌^◌, ◌≤◌, ◌<◌, compare}
+use Prim.Native.Nat.{ℕ, ◌+◌, ◌-◌, ◌*◌, ◌/◌, ◌%◌, ◌^◌, ◌≤◌, ◌<◌, compare}
 use native.Mathlib.Nat.{le_trans, le_of_eq, lt_of_le_of_lt, lt_of_lt_of_le, eq-or-lt_of_le, mul_assoc, mul_comm, mul-pos}
 use native.Mathlib.Nat.{mul-le-mul_left, mul-le-mul_right, mul-lt-mul_of_pos_right, mod-lt, div-add-mod', le-div_iff_mul-le, lt_irrefl}
 use native.Mathlib.Omega.{arith}
@@ -14,7 +14,7 @@ use lib.Ieee.Fits.{two, two-le_pos}
 use lib.Ieee.Nearest.{closest}
 use lib.Ieee.Order.{drop}
 use lib.Ieee.Scale.{grid}
-use Rattle.float_bits.proofs.Laws.{here_or_on, nearest-lt, nearest-eq, nearest-gt}
+use Rattle.float_bits.proofs.Laws.{here_or_on, parity, nearest-lt, nearest-eq, nearest-gt}
 use Rattle.float_near.specs.Near.{Near}
 
 -- ---- a whole number nearest to a / u is within a half of it
@@ -25,20 +25,13 @@ at-tie : (w d u a p : ℕ) → w * u + d ≡ a → d * 2 ≡ u → p ≡ 0 ⊎ p
 at-tie w d u a p e t (inl z) = rw z (omega arith, omega arith)
 at-tie w d u a p e t (inr z) = rw z (omega arith, omega arith)
 
-bit : (w : ℕ) → w % 2 ≡ 0 ⊎ w % 2 ≡ 1
-bit w = go (w % 2) (mod-lt w (omega arith))
-  where
-    go : (r : ℕ) → r < 2 → r ≡ 0 ⊎ r ≡ 1
-    go zero h = inl refl
-    go (suc r) h = inr (omega arith)
-
 pub closest-half : (a u : ℕ) → 0 < u → Half (closest a u) a u
 closest-half a u p = go (a / u) (a % u) (div-add-mod' a u) (mod-lt a p) (here_or_on (a % u * 2) u)
   where
     go : (w d : ℕ) → w * u + d ≡ a → d < u → (d * 2 < u) ⊎ (u ≤ d * 2) → Half (nearest w (compare (d * 2) u)) a u
     go w d e l (inl c) = rw (nearest-lt w (d * 2) u c) (omega arith, omega arith)
     go w d e l (inr c) = elim (eq-or-lt_of_le c) [
-      | inl t ↦ rw (nearest-eq w (d * 2) u (sym t)) (at-tie w d u a (w % 2) e (sym t) (bit w))
+      | inl t ↦ rw (nearest-eq w (d * 2) u (sym t)) (at-tie w d u a (w % 2) e (sym t) (parity w))
       | inr t ↦ rw (nearest-gt w (d * 2) u t) (omega arith, omega arith)
     ]
 

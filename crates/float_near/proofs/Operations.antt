@@ -13,7 +13,6 @@ use lib.Ieee.Exact.{HasValue, units_val}
 use lib.Ieee.Order.{drop, kept}
 use lib.Ieee.Positive.{first_pos}
 use lib.Ieee.Scale.{grid, overflow, round_same, normal_of_fraction}
-use Rattle.float_narrow.specs.Narrow.{narrow}
 use Rattle.float_near.specs.Rounded.{Rounded}
 use Rattle.float_near.proofs.Half.{grid-near, holds-above}
 
@@ -46,13 +45,6 @@ round-near f s a c C lo hi =
     under l m = omega arith
 
 -- ---- operands by their fractions
-pub narrow_at : (x : Float) (s : Bool) (a c : ℕ) → 0 < c → HasValue x s a c → narrow x ≡ round binary32 s a c
-unfolding narrow
-narrow_at nan s a c C h = absurd h
-narrow_at (inf t) s a c C h = absurd h
-narrow_at (fin t m e) s a c C h =
-    ap (λ (z : Bool). round binary32 z (m * up e) (down e)) h.0 ∙ round_same binary32 s (m * up e) (down e) a c (down_pos e) C h.1
-
 module _ (f : Format) (x y : Float) (s t : Bool) (a c b d : ℕ) (C : 0 < c) (D : 0 < d) where
   pub mul_at : HasValue x s a c → HasValue y t b d → mul f x y ≡ round f (unlike s t) (a * b) (c * d)
   unfolding mul

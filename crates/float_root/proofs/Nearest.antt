@@ -3,19 +3,18 @@ use mathlib.Core.Path.{◌≡◌, refl, sym, ap, ◌∙◌, subst}
 use mathlib.Core.Logic.{inl, inr}
 use Prim.Native.Nat.{ℕ, zero, suc, ◌+◌, ◌-◌, ◌*◌, ◌/◌, ◌%◌, ◌^◌, ◌≤◌, ◌<◌}
 use native.Mathlib.Nat.{le_trans, le_of_eq, lt_of_le_of_lt}
-use native.Mathlib.Nat.{mul-one, mul_assoc, mul_right_comm, mul-le-mul_right, mul-lt-mul_of_pos_right, lt_of_mul-lt-mul_right}
+use native.Mathlib.Nat.{mul_assoc, mul_right_comm, mul-le-mul_right, mul-lt-mul_of_pos_right, lt_of_mul-lt-mul_right}
 use native.Mathlib.Omega.{arith}
-use mathlib.Core.Bool.{true, false, ◌&&◌}
-use lib.IntN.{ℤ, pos, negsuc}
-use lib.Dec.{T, leb, ltb, eqb, leb→le, ltb→lt}
+use mathlib.Core.Bool.{true, false}
+use lib.Dec.{T}
 use lib.Pow.{pow-add, pow_pos, shl_lt}
 use lib.Ieee.{Float, nan, inf, fin, binary32, up, down, fits, of_bits}
-use lib.Ieee.Fits.{and_l, and_r}
 use lib.Ieee.Exact.{HasValue}
 use lib.Ieee.Positive.{positive, value_pos, first_pos}
 use Rattle.float_root.specs.Root.{root_to, sqrt_of, NearRoot}
 use Rattle.float_root.specs.Steps.{ScaledTo, RootBits}
-use Rattle.float_bits.proofs.Laws.{here_or_on, pow_lt_back, pow_le_back}
+use Rattle.float_bits.proofs.Laws.{here_or_on, pow_lt_back}
+use Rattle.float_bits.proofs.Values.{parts, places}
 use Rattle.float_root.proofs.Roots.{pairs, first-pos, first_small, raised-low, raised-same, scaled-up, Shape, shape, root-up, root-down, bits-value, near-root}
 use Rattle.float_root.proofs.Sqrt.{root-to, root-value}
 
@@ -23,37 +22,20 @@ use Rattle.float_root.proofs.Sqrt.{root-to, root-value}
 abbrev pub Units : Float → Type 0
 Units x = (a : ℕ) × HasValue x false a (2 ^ 149) × (a < 2 ^ 277)
 
-count : (m : ℕ) (e : ℤ) → down e ≤ 2 ^ 149 → (a : ℕ) × (m * up e * 2 ^ 149 ≡ a * down e)
-count m (pos j) d = (m * 2 ^ j * 2 ^ 149, sym (mul-one (m * 2 ^ j * 2 ^ 149)))
-count m (negsuc j) d = (
-  m * 2 ^ (149 - suc j),
-  ap (λ (z : ℕ). z * 2 ^ 149) (mul-one m)
-      ∙ ap (λ (z : ℕ). m * 2 ^ z) (sym (back j (pow_le_back (suc j) 149 d)))
-      ∙ ap (λ (z : ℕ). m * z) (pow-add 2 (149 - suc j) (suc j))
-      ∙ sym (mul_assoc m (2 ^ (149 - suc j)) (2 ^ suc j)),
-)
-  where
-    back : (j : ℕ) → suc j ≤ 149 → 149 - suc j + suc j ≡ 149
-    back j h = omega arith
-
 bounded : (v a d : ℕ) → v * 2 ^ 149 ≡ a * d → v < 2 ^ 128 * d → a < 2 ^ 277
 bounded v a d e h =
     lt_of_mul-lt-mul_right d
     (lt_of_le_of_lt (le_of_eq (sym e)) (subst (λ (z : ℕ). v * 2 ^ 149 < z) (mul_right_comm (2 ^ 128) d (2 ^ 149)) (mul-lt-mul_of_pos_right h (pow_pos 149))))
 
 pub units_of : (x : Float) → T (fits binary32 x) → T (positive x) → Units x
-unfolding fits
 units_of nan f p = absurd p
 units_of (inf s) f p = absurd p
 units_of (fin true m e) f p = absurd p
 units_of (fin false zero e) f p = absurd p
 units_of (fin false (suc m) e) f p =
-    let A = eqb (suc m % 2) 1 in
-    let B = ltb (suc m) (2 ^ 24) in
-    let C = leb (down e) (2 ^ 149) in
-    let D = ltb (suc m * up e) (2 ^ 128 * down e) in
-    let c = count (suc m) e (leb→le (down e) (2 ^ 149) (and_r (A && B) C (and_l (A && B && C) D f))) in
-    (c.0, (refl, c.1), bounded (suc m * up e) c.0 (down e) c.1 (ltb→lt (suc m * up e) (2 ^ 128 * down e) (and_r (A && B && C) D f)))
+    let p = parts binary32 false (suc m) e f in
+    let (j, q) = places (suc m) e 149 p.fine in
+    (suc m * 2 ^ j, (refl, q), bounded (suc m * up e) (suc m * 2 ^ j) (down e) q p.small)
 
 -- ---- its root's digits
 abbrev Scaling : ℕ → Type 0

@@ -4,23 +4,23 @@ use mathlib.Core.Logic.{◌⊎◌, inl, inr}
 use Prim.Native.Nat.{ℕ, zero, suc, ◌+◌, ◌-◌, ◌*◌, ◌/◌, ◌%◌, ◌^◌, ◌≤◌, ◌<◌}
 use native.Mathlib.Nat.{le_trans, le_of_eq, le_of_lt, lt_of_lt_of_le, lt_of_le_of_lt, lt_of_not-le, not-le_of_lt}
 use native.Mathlib.Nat.{mul-one, mul_assoc, mul-le-mul, mul-le-mul_left, mul-le-mul_right, mul-lt-mul_of_pos_right, pow-succ'}
-use native.Mathlib.Nat.{zero-add, zero-mul, zero-lt-suc, lt_irrefl, mul-pos, mul-mul-mul_comm, le_of_suc-le-suc, eq-or-lt_of_le}
+use native.Mathlib.Nat.{zero-add, mul-pos, mul-mul-mul_comm, le_of_suc-le-suc, eq-or-lt_of_le}
 use native.Mathlib.Nat.{eq_of_mul-eq-mul_right, lt_of_mul-lt-mul_right}
 use native.Mathlib.Omega.{arith}
-use mathlib.Core.Bool.{false, ◌&&◌}
-use lib.IntN.{ℤ, pos, negsuc}
+use mathlib.Core.Bool.{false}
 use lib.Count.{count_leading_zeros}
-use lib.Dec.{T, leb, ltb, eqb, leb→le, ltb→lt, lit<, lit≤}
+use lib.Dec.{T, ltb, lit<, lit≤}
 use Rattle.std.proofs.lemmas.Nat.{leading_top}
 use lib.Pow.{pow-add, pow_pos, pow_mono, shl_lt}
-use lib.Ieee.{Float, nan, inf, fin, binary32, up, down, odd, units, fits, of_bits}
-use lib.Ieee.Fits.{and_l, and_r, down_pos, odd-fits, cond-fits, inf-fits}
+use lib.Ieee.{Float, nan, inf, fin, binary32, down, odd, units, fits, of_bits}
+use lib.Ieee.Fits.{down_pos, odd-fits, cond-fits, inf-fits}
 use lib.Ieee.Bits.{of_bits-fits, of_bits-to_bits}
 use lib.Ieee.Exact.{HasValue, units_val}
 use Rattle.float_root.specs.Root.{NearRoot}
 use Rattle.float_bits.specs.Steps.{significand}
 use Rattle.float_root.specs.Steps.{ScaledTo, RootBits}
-use Rattle.float_bits.proofs.Laws.{here_or_on, pow_lt_back, pow_le_back, finite-bits}
+use Rattle.float_bits.proofs.Laws.{here_or_on, parity, pow_lt_back, finite-bits}
+use Rattle.float_bits.proofs.Values.{parts, places}
 
 -- ---- the start: h is even or odd
 halves : (h : ℕ) → h % 2 ≡ 0 → h / 2 + h / 2 ≡ h
@@ -28,20 +28,6 @@ halves h e = omega arith
 
 halves' : (h : ℕ) → h % 2 ≡ 1 → suc (h / 2 + h / 2) ≡ h
 halves' h e = omega arith
-
-parity : (h : ℕ) → (h % 2 ≡ 0) ⊎ (h % 2 ≡ 1)
-parity h = go (h % 2) (below h)
-  where
-    below : (h : ℕ) → h % 2 < 2
-    below h = omega arith
-
-    go : (r : ℕ) → r < 2 → (r ≡ 0) ⊎ (r ≡ 1)
-    go zero l = inl refl
-    go (suc zero) l = inr refl
-    go (suc (suc r)) l = absurd (no r l)
-      where
-        no : (r : ℕ) → suc (suc r) < 2 → ⊥
-        no r l = omega arith
 
 twice : (q p : ℕ) → q * 2 * (p * p) ≡ q * (2 * (p * p))
 twice q p = omega arith
@@ -164,38 +150,13 @@ root-down n m k s w lo hi g =
 abbrev pub Shape : ℕ → Type 0
 Shape b = (n : ℕ) × (x : ℕ) × (n < 2 ^ 24) × (b ≡ n * 2 ^ x)
 
-shape_at : (m : ℕ) (e : ℤ) (b : ℕ) → m < 2 ^ 24 → down e ≤ 2 ^ 149 → m * up e * 2 ^ 149 ≡ b * down e → Shape b
-shape_at m (pos j) b l d h = (m, j + 149, l, sym (mul-one b) ∙ sym h ∙ mul_assoc m (2 ^ j) (2 ^ 149) ∙ ap (λ (z : ℕ). m * z) (sym (pow-add 2 j 149)))
-shape_at m (negsuc j) b l d h =
-    let g : suc j ≤ 149 = pow_le_back (suc j) 149 d in (
-      m,
-      149 - suc j,
-      l,
-      eq_of_mul-eq-mul_right (2 ^ suc j) (pow_pos (suc j)) b (m * 2 ^ (149 - suc j))
-          (sym h ∙ ap (λ (z : ℕ). z * 2 ^ 149) (mul-one m) ∙ ap (λ (z : ℕ). m * 2 ^ z) (sym (back j g))
-          ∙ ap (λ (z : ℕ). m * z) (pow-add 2 (149 - suc j) (suc j)) ∙ sym (mul_assoc m (2 ^ (149 - suc j)) (2 ^ suc j))),
-    )
-  where
-    back : (j : ℕ) → suc j ≤ 149 → 149 - suc j + suc j ≡ 149
-    back j h = omega arith
-
 pub shape : (y : Float) (b : ℕ) → T (fits binary32 y) → HasValue y false b (2 ^ 149) → Shape b
-unfolding fits
 shape nan b f h = absurd h
 shape (inf s) b f h = absurd h
-shape (fin s zero e) b f h = (0, 0, lit< tt, nothing b (down e) (down_pos e) (sym h.1 ∙ ap (λ (z : ℕ). z * 2 ^ 149) (zero-mul (up e)) ∙ zero-mul (2 ^ 149)))
-  where
-    nothing : (b d : ℕ) → 0 < d → b * d ≡ 0 → b ≡ 0 * 2 ^ 0
-    nothing zero d p e = refl
-    nothing (suc b) d p e = absurd (lt_irrefl 0 (subst (λ (z : ℕ). 0 < z) e (mul-pos (zero-lt-suc b) p)))
-shape (fin s (suc m) e) b f h =
-    let A = eqb (suc m % 2) 1 in
-    let B = ltb (suc m) (2 ^ 24) in
-    let C = leb (down e) (2 ^ 149) in
-    let D = ltb (suc m * up e) (2 ^ 128 * down e) in
-    shape_at (suc m) e b (ltb→lt (suc m) (2 ^ 24) (and_r A B (and_l (A && B) C (and_l (A && B && C) D f))))
-    (leb→le (down e) (2 ^ 149) (and_r (A && B) C (and_l (A && B && C) D f)))
-    h.1
+shape (fin s m e) b f h =
+    let p = parts binary32 s m e f in
+    let (j, q) = places m e 149 p.fine in
+    (m, j, p.few, eq_of_mul-eq-mul_right (down e) (down_pos e) b (m * 2 ^ j) (sym h.1 ∙ q))
 
 -- from 2 ^ (23 + k) units on, a value is a multiple of 2 ^ k of them
 multiple : (b k : ℕ) → Shape b → 2 ^ 23 * 2 ^ k ≤ b → (j : ℕ) × (b ≡ j * 2 ^ k)

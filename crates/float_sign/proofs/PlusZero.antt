@@ -6,7 +6,7 @@ use mathlib.Core.Bool.{Bool, true, false, not, ◌&&◌, beq, cond}
 use Prim.Native.Nat.{ℕ, zero, suc, ◌+◌, ◌-◌, ◌*◌, ◌/◌, ◌%◌, ◌^◌, ◌≤◌, ◌<◌, compare}
 use native.Mathlib.Nat.{le_trans, le_of_eq, le_of_lt, lt_of_lt_of_le, lt_irrefl, zero-lt-suc, zero-mul, one-mul, mul_assoc, mul_comm, mul-pos}
 use native.Mathlib.Nat.{mul-le-mul, mul-le-mul_right, lt_of_mul-lt-mul_right, suc-mul, sub-add_cancel, sub-zero, sub-eq-zero_of_le}
-use native.Mathlib.Nat.{zero-sub, zero-add, le-div_iff_mul-le, div-div-eq-div-mul}
+use native.Mathlib.Nat.{le-add_right, zero-sub, zero-add, le-div_iff_mul-le, div-div-eq-div-mul}
 use native.Mathlib.Omega.{arith}
 use lib.IntN.{ℤ, pos, negsuc}
 use lib.Dec.{T, leb, ltb, ltb→lt, nltb→le, leb→le, nleb→lt}
@@ -148,10 +148,7 @@ unfolding sum
 sum-plus f s a t b c C A L G = go s t A
   where
     more : c ≤ a * 2 ^ low f → c ≤ (a + b) * 2 ^ low f
-    more h = le_trans h (mul-le-mul_right (2 ^ low f) (grows a b))
-      where
-        grows : (x y : ℕ) → x ≤ x + y
-        grows x y = omega arith
+    more h = le_trans h (mul-le-mul_right (2 ^ low f) (le-add_right a b))
 
     unlike-signs : (s t : Bool) (p q : Bool) → (T p → a < b) → (T q → b < a)
         → plus_zero (cond p (round f t (b - a) c) (round f (s && q) (a - b) c)) ≡ cond p (round f t (b - a) c) (round f (s && q) (a - b) c)

@@ -21,7 +21,8 @@ use Rattle.float_root.specs.Root.{sqrt_of}
 use Rattle.float_root.proofs.Nearest.{RootWithin, sqrt-within}
 use Rattle.float_near.specs.Near.{Near}
 use Rattle.float_near.specs.Rounded.{Rounded}
-use Rattle.float_near.proofs.Operations.{round-near, narrow_at, div-at}
+use Rattle.float_narrow.proofs.Laws.{narrow_at}
+use Rattle.float_near.proofs.Operations.{round-near, div-at}
 use Rattle.loudness.proofs.Numbers.{Narrowed}
 use Rattle.loudness.proofs.Sum.{one64, Summed}
 

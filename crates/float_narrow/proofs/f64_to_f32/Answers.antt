@@ -1,5 +1,5 @@
 use mathlib.Core.Path.{◌≡◌, sym, ap, ◌∙◌, subst}
-use mathlib.Core.Bool.{Bool, not}
+use mathlib.Core.Bool.{Bool, true, not}
 use Prim.Native.Nat.{ℕ}
 use lib.Dec.{T}
 use lib.Ieee.{Float, binary32, binary64, is_nan, fits, of_bits, to_bits}
@@ -12,10 +12,17 @@ use Rattle.float_narrow.proofs.Decode.{narrow-fits, narrow-real}
 use Rattle.float_narrow.proofs.f64_to_f32.Goals as goal
 
 -- the bits of `clause` are those of `narrow`
-result : (x : Float) (r : ℕ) → T (fits binary64 x) → r ≡ to_bits binary32 (clause (of_bits binary64 (to_bits binary64 x))) → of_bits binary32 r ≡ narrow x
-result x r f e =
-    ap (of_bits binary32) (e ∙ ap (λ (v : Float). to_bits binary32 (clause v)) (of_bits-to_bits binary64 x f) ∙ ap (to_bits binary32) (clause-narrow x f))
-    ∙ of_bits-to_bits binary32 (narrow x) (narrow-fits x)
+module _ (x : Float) (w : fits binary64 x ≡ true) where
+  held : T (fits binary64 x)
+  held = subst T (sym w) tt
+
+  same : of_bits binary64 (to_bits binary64 x) ≡ x
+  same = of_bits-to_bits binary64 x held
+
+  result : (r : ℕ) → r ≡ to_bits binary32 (clause (of_bits binary64 (to_bits binary64 x))) → of_bits binary32 r ≡ narrow x
+  result r e =
+      ap (of_bits binary32) (e ∙ ap (λ (v : Float). to_bits binary32 (clause v)) same ∙ ap (to_bits binary32) (clause-narrow x held))
+      ∙ of_bits-to_bits binary32 (narrow x) (narrow-fits x)
 
 pub returns-then-is_nan : goal.returns-then-is_nan
 unfolding narrow
@@ -23,15 +30,14 @@ returns-then-is_nan c = nan-bits ∙ sym (ap narrow (nan-is c.args.x c.if-is_nan
 
 pub narrow_bits-requires : goal.narrow_bits-requires
 narrow_bits-requires c =
-    subst (λ (v : Float). T (not (is_nan v))) (sym (of_bits-to_bits binary64 c.args.x (subst T (sym c.well_formed.0.1) tt)))
-    (real c.args.x c.if-is_nan.ensures.value)
+    subst (λ (v : Float). T (not (is_nan v))) (sym (same c.args.x c.well_formed.0.1)) (real c.args.x c.if-is_nan.ensures.value)
 
 pub float_from_bits-result : goal.float_from_bits-result
 float_from_bits-result c =
     let x = c.args.x in
     subst (λ (b : Bool). T (not b)) (sym (nan_bits_is binary32 c.narrow_bits.result))
-    (subst (λ (v : Float). T (not (is_nan v))) (sym (result x c.narrow_bits.result (subst T (sym c.well_formed.0.1) tt) c.narrow_bits.ensures))
+    (subst (λ (v : Float). T (not (is_nan v))) (sym (result x c.well_formed.0.1 c.narrow_bits.result c.narrow_bits.ensures))
     (narrow-real x (real x c.if-is_nan.ensures.value)))
 
 pub returns : goal.returns
-returns c = result c.args.x c.narrow_bits.result (subst T (sym c.well_formed.0.1) tt) c.narrow_bits.ensures
+returns c = result c.args.x c.well_formed.0.1 c.narrow_bits.result c.narrow_bits.ensures
