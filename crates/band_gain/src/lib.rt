@@ -9,9 +9,17 @@ ghost use Rattle.band_gain.specs.Gain.{steps, gain_at, gain_of, GainRange};
 
 use std::f64::consts::LN_2;
 
-// The steps of 1/256 from -150 to 0. Here and below 256 stands by number: it is a u64 in some places, an f64 in others. A u64 or an
-// i64 becomes an f64 by a cast, since std has no `From` for these.
-const BIAS: u64 = 150 * 256;
+// At 2 ^ -150 and below a gain counts as 0.
+const LEAST: u64 = 150;
+
+// The steps of 1/256 from -150 to 0. Here and below 256 stands by number, and 150 in `band_gain`: each is a u64 in some places, a
+// float in others. A u64 or an i64 becomes an f64 by a cast, since std has no `From` for these.
+const BIAS: u64 = LEAST * 256;
+
+// One in the exponent's field of an f64, and what stands there for 2 ^ 0.
+const EXPONENT: u64 = 0x10_0000_0000_0000;
+
+const ZEROTH: u64 = 1_023;
 
 // k + 38,400, where k is the greatest whole number not above 256 x. By truncation on either side of 0, as the definition counts:
 // the library's `floor` answers an f64, which would have to be made a whole number by the same cases.
@@ -42,9 +50,11 @@ fn two_to(n: u64) -> f64
     requires { n ≤ 182 }
     ensures { result ≡ fin false 1 (minus n 150) }
 {
-    f64::from_bits((n + 873) * 0x10_0000_0000_0000)
+    f64::from_bits((n + (ZEROTH - LEAST)) * EXPONENT)
 }
 
+// 2 ^ x, x being in step q: the power at that step, by a table and an exponent, times that of what x is above it, by the series
+// 1 + y + y^2 / 2 + y^3 / 6.
 fn gain_at(x: f32, q: u64) -> f32
     requires { q ≤ 46_592 }
     ensures { result ≡ gain_at x q }
