@@ -1,14 +1,14 @@
 -- The steps of x, from the f64 product 256 * x, which loses nothing.
-use Rattle.std.proofs.Common.{◌≡◌, ℕ, zero, suc, ◌+◌, ◌-◌, ◌*◌, ◌/◌, ◌%◌, ◌^◌, ◌<◌, ◌≤◌, Bool, true, false, cond, ◌&&◌, T, eqb, ltb, leb, ℤ, pos, negsuc, sym, refl}
-use Rattle.std.proofs.Common.{ap, ◌∙◌, subst, le_trans, lt_of_lt_of_le, lt_of_le_of_lt, add-zero, lt_irrefl, mul-le-mul_right, mul_assoc, mul_comm}
+use Rattle.std.proofs.Common.{◌≡◌, ℕ, zero, suc, ◌+◌, ◌-◌, ◌*◌, ◌/◌, ◌%◌, ◌^◌, ◌<◌, ◌≤◌, Bool, true, false, cond, ◌&&◌, T, eqb, ltb, leb, ℤ, pos, negsuc}
+use Rattle.std.proofs.Common.{sym, refl, ap, ◌∙◌, subst, le_trans, lt_of_lt_of_le, lt_of_le_of_lt, add-zero, lt_irrefl, mul-le-mul_right, mul_assoc, mul_comm}
 use Rattle.std.proofs.Common.{lt_of_mul-lt-mul_right, mul-le-mul_left, mul-lt-mul_of_pos_right, one-mul, div-add-mod', mul-one, mul_right_comm}
 use Rattle.std.proofs.Common.{le_of_mul-le-mul_right, mul_left_comm, arith, lit<, lit≤, ltb→lt, leb→le, pow_pos, pow_mono, pow-add, shl_lt, ltb-false, ltb-true}
 use Rattle.std.proofs.Common.{eq-eqb, ne_eqb, eqb-true}
-use native.Mathlib.Nat.{mul-mod_left, mul-lt-mul_of_pos_left}
-use native.Mathlib.Nat.{eq_of_mul-eq-mul_right}
+use native.Mathlib.Nat.{mul-mod_left, mul-lt-mul_of_pos_left, eq_of_mul-eq-mul_right}
 use lib.Pow.{pow-lt}
 use borrow.Author.Tests.{eqb-false}
 use lib.Ieee.{Float, nan, inf, fin, binary32, binary64, up, down, fits, of_bits, mul, round, unlike}
+use lib.Ieee.Bits.{is_true}
 use lib.Ieee.Exact.{HasValue, round_exact}
 use lib.Ieee.Fits.{down_pos, and_l, and_r}
 use lib.Ieee.Nearest.{div_same}
@@ -25,11 +25,7 @@ unfolding fits
 small s zero e t = (lit< tt, down-one e (eqb→one e t))
   where
     eqb→one : (e : ℤ) → T (eqb (up e * down e) 1) → up e * down e ≡ 1
-    eqb→one e t = eqb-true (up e * down e) 1 (is (eqb (up e * down e) 1) t)
-      where
-        is : (b : Bool) → T b → b ≡ true
-        is true t = refl
-        is false t = absurd t
+    eqb→one e t = eqb-true (up e * down e) 1 (is_true (eqb (up e * down e) 1) t)
 
     down-one : (e : ℤ) → up e * down e ≡ 1 → down e ≤ 2 ^ 149
     down-one (pos k) h = lit≤ tt

@@ -13,28 +13,22 @@ use std::f64::consts::LN_2;
 const LEAST: u64 = 150;
 
 // The steps of 1/256 from -150 to 0. Here and below 256 stands by number, and 150 in `band_gain`: each is a u64 in some places, a
-// float in others. A u64 or an i64 becomes an f64 by a cast, since std has no `From` for these.
+// float in others. An i64 becomes an f64 by a cast, since std has no `From` for it.
 const BIAS: u64 = LEAST * 256;
 
 // One in the exponent's field of an f64, and what stands there for 2 ^ 0.
-const EXPONENT: u64 = 0x10_0000_0000_0000;
+const EXPONENT: u64 = 1 << 52;
 
 const ZEROTH: u64 = 1_023;
 
-// k + 38,400, where k is the greatest whole number not above 256 x. By truncation on either side of 0, as the definition counts:
-// the library's `floor` answers an f64, which would have to be made a whole number by the same cases.
+// k + 38,400, where k is the greatest whole number not above 256 x.
 fn steps_of(x: f32) -> u64
     requires gain_range { GainRange x }
     requires t { T (fits binary32 x) }
     ensures { (result ≡ steps x) × (result ≤ 46_592) }
 {
     let w = 256.0 * float_bits::formats::f32_to_f64(x);
-    if 0.0 <= w {
-        return BIAS + std::num::truncating_f64_to_u64(w);
-    }
-    let v = -w;
-    let t = std::num::truncating_f64_to_u64(v);
-    if v > t as f64 { BIAS - 1 - t } else { BIAS - t }
+    (BIAS.cast_signed() + std::num::truncating_f64_to_i64(w.floor())).cast_unsigned()
 }
 
 // q - 38,400.

@@ -1,63 +1,48 @@
-use Rattle.std.proofs.Common.{◌≡◌, ◌+◌, ◌-◌, ◌^◌, true, false, sym, ◌∙◌, subst, arith, le→leb}
+use Rattle.std.proofs.Common.{◌≡◌, ap, ap₂, ◌∙◌, sym, subst, rules, pos, ◌+ℤ◌, w64, to_z, of_z, FitsSigned, arith}
+use Rattle.std.proofs.Math.Facts.{to_z-of_z, of_z-to_z}
+use mir.ValLaws.{to_z_pos}
 use lib.Dec.{T}
-use lib.Ieee.{Float, binary32, fits, in_float}
+use lib.Ieee.{Float, binary32, binary64, fits}
+use Rattle.std.specs.Float.{floor}
 use Rattle.band_gain.specs.Gain.{steps, GainRange}
-use Rattle.band_gain.proofs.Floor.{Fine, product, fine}
-use Rattle.band_gain.proofs.Limits.{asked-above, found-above, asked-below, small-below, found_below}
+use Rattle.band_gain.proofs.Floor.{product, fine}
+use Rattle.band_gain.proofs.Limits.{Floored, floored, cut-lower, cut-upper, total}
+use Rattle.band_gain.proofs.steps_of.Goals.{After-floor, After-truncating_f64_to_i64}
 use Rattle.band_gain.proofs.steps_of.Goals as goal
 
--- what is widened lies in the range of the steps
-fine-at : {x w : Float} → w ≡ x → GainRange x → T (fits binary32 x) → Fine (product w) (steps x)
-fine-at {x} e g t = subst (λ z. Fine (product z) (steps x)) (sym e) (fine x t g)
+floor-of : {x w y : Float} → y ≡ floor binary64 (product w) → w ≡ x → GainRange x → T (fits binary32 x) → Floored y (steps x)
+floor-of {x} h e g t = subst (λ z. Floored z (steps x)) (sym h) (subst (λ z. Floored (floor binary64 (product z)) (steps x)) (sym e) (floored _ _ (fine x t g)))
 
-pub truncating_f64_to_u64-requires : goal.truncating_f64_to_u64-requires
-truncating_f64_to_u64-requires c =
-    let r = asked-above _ _ (fine-at c.f32_to_f64-w.ensures c.requires.gain_range c.requires.t) c.if-w.true in
-    record { lower_bound = r.0; upper_bound = r.1 }
+found : (c : After-floor) → Floored c.floor.result (steps c.args.x)
+found c = floor-of c.floor.ensures c.f32_to_f64-w.ensures c.requires.gain_range c.requires.t
 
-pub overflow_add-result : goal.overflow_add-result
-overflow_add-result c =
-    omega (
-      arith,
-      (found-above _ _ _ (fine-at c.f32_to_f64-w.ensures c.requires.gain_range c.requires.t) c.if-w.true c.truncating_f64_to_u64.ensures).1,
-    )
+pub truncating_f64_to_i64-requires : goal.truncating_f64_to_i64-requires
+truncating_f64_to_i64-requires c =
+    let f = found (goal.at.truncating_f64_to_i64-requires c).After-floor in
+    record { lower_bound = cut-lower _ f.few f.s _ f.value; upper_bound = cut-upper _ f.few f.s _ f.value }
 
-pub returns-then-w : goal.returns-then-w
-returns-then-w c =
-    found-above _ _ _ (fine-at c.f32_to_f64-w.ensures c.requires.gain_range c.requires.t) c.if-w.true c.truncating_f64_to_u64.ensures
+-- the sum, whose parts fit
+sum-is : (c : After-truncating_f64_to_i64)
+    → to_z w64 (of_z w64 c.cast_signed.result) +ℤ to_z w64 (of_z w64 c.truncating_f64_to_i64.result) ≡ pos (steps c.args.x)
+sum-is c =
+    let f = found (goal.at.After-truncating_f64_to_i64 c).After-floor in
+    ap₂ ◌+ℤ◌ (to_z-of_z {w = w64} (search rules) ∙ c.cast_signed.ensures) (to_z-of_z {w = w64} (search rules) ∙ c.truncating_f64_to_i64.ensures)
+    ∙ total _ _ _ f.few f.value ∙ ap pos f.is
 
-pub truncating_f64_to_u64-t-requires : goal.truncating_f64_to_u64-t-requires
-truncating_f64_to_u64-t-requires c =
-    let r = asked-below _ _ (fine-at c.f32_to_f64-w.ensures c.requires.gain_range c.requires.t) c.if-w.false in
-    record { lower_bound = r.0; upper_bound = r.1 }
+sum-fits : (c : After-truncating_f64_to_i64)
+    → FitsSigned w64 (to_z w64 (of_z w64 c.cast_signed.result) +ℤ to_z w64 (of_z w64 c.truncating_f64_to_i64.result))
+sum-fits c =
+    let f = found (goal.at.After-truncating_f64_to_i64 c).After-floor in
+    subst (FitsSigned w64) (sym (sum-is c)) (record { sfits = omega (arith, f.most) })
 
-pub int_to_float-t : goal.int_to_float-t
-unfolding in_float
-int_to_float-t c = le→leb c.truncating_f64_to_u64-t.result (2 ^ 53) (omega (
-  arith,
-  small-below _ _ _ (fine-at c.f32_to_f64-w.ensures c.requires.gain_range c.requires.t) c.if-w.false c.truncating_f64_to_u64-t.ensures,
-))
+pub overflow_add-cast_signed : goal.overflow_add-cast_signed
+overflow_add-cast_signed c = sum-fits (goal.at.overflow_add-cast_signed c).After-truncating_f64_to_i64
 
-pub overflow_sub-result-then-v-t : goal.overflow_sub-result-then-v-t
-overflow_sub-result-then-v-t c =
-    small-below _ _ _ (fine-at c.f32_to_f64-w.ensures c.requires.gain_range c.requires.t) c.if-w.false c.truncating_f64_to_u64-t.ensures
-
-pub overflow_sub-result-else-v-t : goal.overflow_sub-result-else-v-t
-overflow_sub-result-else-v-t c = omega (
-  arith,
-  small-below _ _ _ (fine-at c.f32_to_f64-w.ensures c.requires.gain_range c.requires.t) c.if-w.false c.truncating_f64_to_u64-t.ensures,
-)
-
-pub returns-then-v-t : goal.returns-then-v-t
-returns-then-v-t c =
-    let z : 38_399 - c.truncating_f64_to_u64-t.result ≡ 38_400 - (c.truncating_f64_to_u64-t.result + 1) = omega arith in (
-      z ∙ found_below true _ _ _ (fine-at c.f32_to_f64-w.ensures c.requires.gain_range c.requires.t) c.if-w.false c.truncating_f64_to_u64-t.ensures c.if-v-t.true,
-      omega arith,
-    )
-
-pub returns-else-v-t : goal.returns-else-v-t
-returns-else-v-t c =
-    let z : 38_400 - c.truncating_f64_to_u64-t.result ≡ 38_400 - (c.truncating_f64_to_u64-t.result + 0) = omega arith in (
-      z ∙ found_below false _ _ _ (fine-at c.f32_to_f64-w.ensures c.requires.gain_range c.requires.t) c.if-w.false c.truncating_f64_to_u64-t.ensures c.if-v-t.false,
-      omega arith,
-    )
+pub returns : goal.returns
+returns c =
+    let a = (goal.at.returns c).After-truncating_f64_to_i64 in
+    let f = found (goal.at.returns c).After-floor in
+    let q = steps c.args.x in
+    let e = c.cast_unsigned.ensures ∙ ap (of_z w64) (to_z-of_z {w = w64} (sum-fits a) ∙ sum-is a ∙ sym (to_z_pos w64 q (omega (arith, f.most))))
+    ∙ of_z-to_z {w = w64} {n = q} (record { fits = omega (arith, f.most) }) in
+    (e, omega (arith, e, f.most))
