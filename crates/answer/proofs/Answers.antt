@@ -10,7 +10,6 @@ use Rattle.std.specs.Prelude.{Result, Ok, Err, slice_index_or}
 use Rattle.std.proofs.lemmas.Bool.Decides.{nat_tests}
 use lib.Dec.{eqb}
 use lib.Ieee.{Float}
-use borrow.Author.Tests.{ne_eqb}
 use Rattle.loops.specs.Front.{front}
 use Rattle.loops.specs.Logic.{cond_either}
 use Rattle.loops.specs.Pick.{pick_true, pick-false}
@@ -19,7 +18,7 @@ use Rattle.reply.specs.declared.Refused.{Refused}
 use Rattle.reply.specs.Reply.{Reply, reply, reply_if, replied, value_or, reply-lent, reply-taken}
 use Rattle.settings.specs.declared.Refusal.{Refusal}
 use Rattle.settings.specs.Number.{number_of}
-use Rattle.settings.proofs.Table.{number_low}
+use Rattle.settings.proofs.Table.{refusal-counts}
 use Rattle.state.specs.Answer.{report_of, answer_words}
 use Rattle.state.specs.declared.Answer.{Answer}
 use Rattle.state.specs.declared.State.{State}
@@ -33,7 +32,7 @@ use Rattle.answer_head.proofs.Heads.{head-fits, head-all}
 use Rattle.answer.specs.Answer.{loss_of, head_of, record_after, Answered, with_record, takes, answer_record}
 
 -- what the samples written leave at the front of a buffer
-pub front-taken : (xs ys : List Float) (n : ℕ) → length xs ≡ n → take n (front xs ys (length xs)) ≡ xs
+pub front-taken : {A : Type 0} (xs ys : List A) (n : ℕ) → length xs ≡ n → take n (front xs ys (length xs)) ≡ xs
 unfolding front
 front-taken xs ys n l = take_at xs (drop (length xs) ys) n l
 
@@ -72,49 +71,44 @@ module _ (b lent : List ℕ) (room : head_most ≤ length lent) where
       let taken = reply-taken _ _ _ wrote ∙ fits in
       λ i. reply (taken i) (with_record (bytes i) (kept i))
 
-  module _ (p q g : List Float) where
-    abbrev call_of : Result Answer Refusal → Type 0
-    call_of t = outcome_of (state_of b) t q g ≡ in_buffer p (loss_of b)
+module _ (b : List ℕ) (p q g : List Float) where
+  abbrev call_of : Result Answer Refusal → Type 0
+  call_of t = outcome_of (state_of b) t q g ≡ in_buffer p (loss_of b)
 
-    pub left-is : (t : Result Answer Refusal) → call_of t → left b g t ≡ record_after b
-    unfolding record_after in_buffer
-    left-is (Ok a) m = λ i. cond (eqb (m i).report.number 0) (record_of (m i).state (m i).history) b
-    left-is (Err e) m =
+  left-is : (t : Result Answer Refusal) → call_of t → left b g t ≡ record_after b
+  unfolding record_after in_buffer
+  left-is (Ok a) m = λ i. cond (eqb (m i).report.number 0) (record_of (m i).state (m i).history) b
+  left-is (Err e) m =
+      let o = loss_of b in
+      sym (pick-false (eqb (number_of e) 0) (record_of o.state o.history) b (refusal-counts e))
+      ∙ (λ i. cond (eqb (m i).report.number 0) (record_of o.state o.history) b)
+
+  -- the call's three words
+  module _ (t : Result Answer Refusal) (made : call_of t) (w : List ℕ) (f : (report_of t).samples ≤ 4_294_967_295 → w ≡ answer_words (report_of t)) where
+    words-are : w ≡ answer_words (loss_of b).report
+    unfolding in_buffer
+    words-are = f (omega (arith, ap (λ z. z.report.samples) made, (outcome-samples b).1)) ∙ ap (λ z. answer_words z.report) made
+
+    abbrev word : ℕ → ℕ
+    word i = slice_index_or w i 0
+
+    abbrev sound : List Float
+    sound = take (word 2) q
+
+    pub count-most : word 2 ≤ samples_most
+    count-most = omega (arith, ap (λ z. slice_index_or z 2 0) words-are, (outcome-samples b).1)
+
+    pub step-written : (lent : List ℕ) (room : head_most ≤ length lent) (r : Result ℕ Refused) (h rec : List ℕ) → rec ≡ left b g t
+        → replied r (headed (value_or 0 r) h)
+        ≡ reply_if (head_fits (length sound) (length sound) (length lent)) (head_written (word 0) (word 1) (length sound) sound lent) (headed 0 lent)
+        → replied r (with_record (headed (value_or 0 r) h) rec) ≡ answered b lent room
+    unfolding in_buffer
+    step-written lent room r h rec e wrote =
         let o = loss_of b in
-        sym (pick-false (eqb (number_of e) 0) (record_of o.state o.history) b (ne_eqb (number_of e) 0 (number_low e)))
-        ∙ (λ i. cond (eqb (m i).report.number 0) (record_of o.state o.history) b)
-
-    module _ (t : Result Answer Refusal) (made : call_of t) where
-      pub samples-most : (report_of t).samples ≤ samples_most
-      unfolding in_buffer
-      samples-most = omega (arith, ap (λ z. z.report.samples) made, (outcome-samples b).1)
-
-      -- the call's three words
-      module _ (w : List ℕ) (f : w ≡ answer_words (report_of t)) where
-        words-are : w ≡ answer_words (loss_of b).report
-        unfolding in_buffer
-        words-are = f ∙ ap (λ z. answer_words z.report) made
-
-        abbrev word : ℕ → ℕ
-        word i = slice_index_or w i 0
-
-        abbrev sound : List Float
-        sound = take (word 2) q
-
-        pub count-most : word 2 ≤ samples_most
-        count-most = omega (arith, ap (λ z. slice_index_or z 2 0) words-are, (outcome-samples b).1)
-
-        pub step-written : (r : Result ℕ Refused) (h rec : List ℕ) → rec ≡ left b g t
-            → replied r (headed (value_or 0 r) h)
-            ≡ reply_if (head_fits (length sound) (length sound) (length lent)) (head_written (word 0) (word 1) (length sound) sound lent) (headed 0 lent)
-            → replied r (with_record (headed (value_or 0 r) h) rec) ≡ answered
-        unfolding in_buffer
-        step-written r h rec e wrote =
-            let o = loss_of b in
-            let size : word 2 ≡ o.report.samples = ap (λ z. slice_index_or z 2 0) words-are in
-            let x : sound ≡ o.pcm = ap (λ z. take (word 2) z.pcm) made ∙ front-taken o.pcm p (word 2) ((outcome-samples b).0 ∙ sym size) in
-            with_head (word 0) (word 1) sound r h rec (ap (λ z. slice_index_or z 0 0) words-are) (ap (λ z. slice_index_or z 1 0) words-are) x
-            (e ∙ left-is t made) wrote
+        let size : word 2 ≡ o.report.samples = ap (λ z. slice_index_or z 2 0) words-are in
+        let x : sound ≡ o.pcm = ap (λ z. take (word 2) z.pcm) made ∙ front-taken o.pcm p (word 2) ((outcome-samples b).0 ∙ sym size) in
+        with_head b lent room (word 0) (word 1) sound r h rec (ap (λ z. slice_index_or z 0 0) words-are) (ap (λ z. slice_index_or z 1 0) words-are) x
+        (e ∙ left-is t made) wrote
 
 -- the public step
 module _ (b h : List ℕ) where

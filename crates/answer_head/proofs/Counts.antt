@@ -1,21 +1,17 @@
 -- A count beside the samples: it says no more than the first so many of them.
-use mathlib.Core.Path.{◌≡◌, refl, ap, ◌∙◌, sym}
+use mathlib.Core.Path.{◌≡◌, refl}
 use mathlib.Core.List.{List}
 use Prim.Native.Nat.{ℕ, ◌≤◌}
 use native.Mathlib.Omega.{arith}
 use lib.ListN.{length, take}
 use lib.Ieee.{Float}
-use lib.Seq.{take-length, length-take-le}
+use lib.Seq.{take-take, length-take-le}
 use borrow.Author.Tests.{le-leb}
 use Rattle.answer_head.specs.Head.{head_fits, head_written}
-
--- the first n of the first n
-first-twice : (n : ℕ) (xs : List Float) → n ≤ length xs → take n (take n xs) ≡ take n xs
-first-twice n xs h = ap (λ m. take m (take n xs)) (sym (length-take-le n xs h)) ∙ take-length (take n xs)
 
 -- the first n with the count n are the samples with the count n
 pub first-so-many : (number kind n : ℕ) (pcm : List Float) (head : List ℕ) → n ≤ length pcm
     → head_written number kind n (take n pcm) head ≡ head_written number kind n pcm head
 unfolding head_written head_fits
 first-so-many number kind n pcm head h =
-    simp (le-leb n (length (take n pcm)) (omega (arith, length-take-le n pcm h)), le-leb n (length pcm) h, first-twice n pcm h) refl
+    simp (le-leb n (length (take n pcm)) (omega (arith, length-take-le n pcm h)), le-leb n (length pcm) h, take-take n n pcm (omega arith)) refl

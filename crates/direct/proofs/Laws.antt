@@ -2,11 +2,10 @@
 use Rattle.std.proofs.Common.{◌≡◌, ℕ, ◌≤◌, List, length, arith, Result, Ok, Err, slice_index_or, ap, sym, ◌∙◌}
 use lib.Ieee.{Float}
 use lib.Dec.{eqb}
-use borrow.Author.Tests.{ne_eqb}
 use Rattle.loops.specs.Pick.{pick-false}
 use Rattle.settings.specs.declared.Refusal.{Refusal}
 use Rattle.settings.specs.Number.{number_of}
-use Rattle.settings.proofs.Table.{number_low}
+use Rattle.settings.proofs.Table.{refusal-counts}
 use Rattle.state.specs.declared.State.{State}
 use Rattle.state.specs.declared.Answer.{Answer}
 use Rattle.state.specs.Answer.{report_of, answer_words}
@@ -34,5 +33,5 @@ module _ (s : State) (h p q g : List Float) (ws : List ℕ) (from : s ≡ state_
   unfolding called_with loss_in
   call-is (Ok a) m w st f e = (λ i. called (slice_index_or (f i) 0 0) (f i) (e i) q g) ∙ ap (called_with ws) (m ∙ lost)
   call-is (Err x) m w st f e =
-      let kept = sym (pick-false (eqb (number_of x) 0) (state_words s) ws (ne_eqb (number_of x) 0 (number_low x))) in
+      let kept = sym (pick-false (eqb (number_of x) 0) (state_words s) ws (refusal-counts x)) in
       (λ i. called (slice_index_or (f i) 0 0) (f i) ((e ∙ kept) i) q g) ∙ ap (called_with ws) (m ∙ lost)

@@ -64,6 +64,16 @@ pub refused-is : (e : Refusal) (s : State) (h p : List Float) → outcome_of s (
 unfolding refused in_buffer front
 refused-is e s h p = refl
 
+-- by a definition that takes a call's number
+pub refused-as : (s : State) (h p : List Float) (f : ℕ → Outcome) → ((n : ℕ) → f (suc n) ≡ refused (suc n) s h)
+    → (r : Result Answer Refusal) (e : Refusal) {n : ℕ} → r ≡ Err e → number_of e ≡ n → outcome_of s r p h ≡ in_buffer p (f n)
+refused-as s h p f g r e q k =
+    ap (λ z. outcome_of s z p h) q ∙ refused-is e s h p ∙ ap (in_buffer p) (refuses (number_of e) (number_low e) ∙ ap f k)
+  where
+    refuses : (n : ℕ) → (n ≡ 0 → ⊥) → refused n s h ≡ f n
+    refuses zero z = absurd (z refl)
+    refuses (suc n) z = sym (g n)
+
 module _ (s : State) (m : Made) (h p : List Float) where
   pub finished_accepted : refusal s (length h) (length p) ≡ 0 → finish s m h ≡ finished s m h (length p)
   unfolding finished finished_by
@@ -73,14 +83,7 @@ module _ (s : State) (m : Made) (h p : List Float) where
   pub concluded : (o : Outcome) → o ≡ in_buffer p (finish s m h) → refusal s (length h) (length p) ≡ 0 → o ≡ in_buffer p (finished s m h (length p))
   concluded o e z = e ∙ ap (in_buffer p) (finished_accepted z)
 
-  refuses : (n : ℕ) → (n ≡ 0 → ⊥) → refused n s h ≡ finished_by n s m h
-  unfolding finished_by
-  refuses zero f = absurd (f refl)
-  refuses (suc n) f = refl
-
   pub finished-refused : (r : Result Answer Refusal) (e : Refusal) → r ≡ Err e → number_of e ≡ refusal s (length h) (length p)
       → outcome_of s r p h ≡ in_buffer p (finished s m h (length p))
-  unfolding finished
-  finished-refused r e q f =
-      ap (λ z. outcome_of s z p h) q ∙ refused-is e s h p
-      ∙ ap (in_buffer p) (refuses (number_of e) (number_low e) ∙ ap (λ z. finished_by z s m h) f)
+  unfolding finished finished_by
+  finished-refused r e = refused-as s h p (λ n. finished_by n s m h) (λ n. refl) r e

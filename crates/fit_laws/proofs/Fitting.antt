@@ -10,9 +10,9 @@ use lib.Ieee.{Float}
 use borrow.Author.Tests.{eqb-false, not-true}
 use Rattle.loops.specs.Logic.{cond_either}
 use Rattle.history.specs.History.{half, samples, channel, Tails, tails, tail_at, newest}
-use Rattle.settings.specs.Settings.{frame, stereo, needed, check_settings}
+use Rattle.settings.specs.Settings.{frame, stereo, check_settings}
 use Rattle.state.specs.State.{core, noisy, searches}
-use Rattle.state.specs.Refusal.{check_count, check_pcm, refuses_state, refusal}
+use Rattle.state.specs.Refusal.{check_count, refuses_state, refusal}
 use Rattle.state.specs.declared.State.{State}
 use Rattle.settings.proofs.Passed.{or-zero, passes, passed}
 use Rattle.state.proofs.Keep.{Ok, ok-start}
@@ -22,6 +22,7 @@ use Rattle.pitch_lag.specs.Lag.{lag_of}
 use Rattle.noise_energies.specs.Energies.{length-lower_energies}
 use Rattle.noise_loss.specs.Loss.{noise_blocks, noise_seed}
 use Rattle.deemphasis.specs.Deemphasis.{length_memories}
+use Rattle.finish.proofs.End.{accepted_state}
 use Rattle.finish.specs.declared.Made.{Made}
 use Rattle.loss.specs.Loss.{
   lowered,
@@ -182,13 +183,9 @@ passed-count s h e = (or-zero (check_count s.loss_count) _ (or-zero (check_setti
 
 -- whatever the call: what it leaves is fit where what it took was
 pub stays_fit : (s : State) (h : List Float) (p : ℕ) → Fit s h → Fit (loss s h p).state (loss s h p).history
-unfolding loss refusal answered refused
-stays_fit s h p fit =
-    go (refusal s (length h) p) (λ e. (or-zero (refuses_state s (length h)) (check_pcm (needed s.settings) p) e).0)
+unfolding loss answered refused
+stays_fit s h p fit = go (refusal s (length h) p) (accepted_state s _ _)
   where
-    counted : refuses_state s (length h) ≡ 0 → check_count s.loss_count ≡ 0
-    counted e = passed-count s h e
-
     go : (n : ℕ) → (n ≡ 0 → refuses_state s (length h) ≡ 0) → Fit (answered n s h).state (answered n s h).history
-    go zero f = fit-concealed s h fit (ok-start s h (f refl)) (counted (f refl))
+    go zero f = fit-concealed s h fit (ok-start s h (f refl)) (passed-count s h (f refl))
     go (suc n) f = fit

@@ -9,13 +9,14 @@ use lib.Ieee.{Float}
 use Rattle.history.specs.History.{half, Tails, tails, with_tails}
 use Rattle.history.proofs.Parts.{Sized, tails-sized}
 use Rattle.post_filter.specs.declared.Filter.{Filter}
-use Rattle.settings.specs.Settings.{frame, stereo, needed}
+use Rattle.settings.specs.Settings.{frame, stereo}
 use Rattle.state.specs.State.{core, noisy}
-use Rattle.state.specs.Refusal.{check_pcm, refuses_state, refusal}
+use Rattle.state.specs.Refusal.{refusal}
 use Rattle.state.specs.declared.State.{State}
-use Rattle.settings.proofs.Passed.{or-zero, frame-high}
+use Rattle.settings.proofs.Passed.{frame-high}
 use Rattle.state.proofs.Keep.{Ok, ok-start}
 use Rattle.pitch_loss.specs.PitchLoss.{pitch_tails}
+use Rattle.finish.proofs.End.{accepted_state}
 use Rattle.loss.specs.Loss.{made, tails_by_noise, tails_by_pitch, tails_after, history_after, finish, concealed, answered, loss}
 use Rattle.forward.specs.Loss.{forward_tails, forward_by_pitch, forward_history, forward_answered, forward_loss}
 use Rattle.forward.proofs.Unseen.{forward-hidden}
@@ -36,8 +37,8 @@ history_hidden s h o =
 
 -- nothing of the forward filter shows, in any call
 pub forward-same : (s : State) (h : List Float) (p : ℕ) → forward_loss s h p ≡ loss s h p
-unfolding forward_loss loss refusal forward_answered answered concealed
-forward-same s h p = go (refusal s (length h) p) (λ e. ok-start s h (or-zero (refuses_state s (length h)) (check_pcm (needed s.settings) p) e).0)
+unfolding forward_loss loss forward_answered answered concealed
+forward-same s h p = go (refusal s (length h) p) (λ e. ok-start s h (accepted_state s _ _ e))
   where
     go : (n : ℕ) → (n ≡ 0 → Ok s h) → forward_answered n s h ≡ answered n s h
     go zero f = ap (finish s (made s h)) (history_hidden s h (f refl))

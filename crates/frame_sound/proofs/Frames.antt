@@ -8,14 +8,14 @@ use lib.ListN.{length, take, drop}
 use lib.Seq.{slice, length-slice}
 use lib.Dec.{lit≤}
 use lib.Ieee.{Float}
-use borrow.Author.Tests.{le-leb, eq-eqb, eqb-true, eqb-false}
+use borrow.Author.Tests.{le-leb, eq-eqb, eqb-true}
 use Rattle.loops.specs.Logic.{and_both}
 use Rattle.reply.specs.Reply.{reply, reply_if, reply-lent, reply-taken, reply-yes}
 use Rattle.history.specs.History.{samples, channel, whole, both, newest}
 use Rattle.history.proofs.Parts.{slice-take}
 use Rattle.settings.specs.Settings.{frame, stereo, check_settings, block_factor, needed}
 use Rattle.settings.specs.declared.Settings.{Settings}
-use Rattle.settings.proofs.Passed.{passed, frame_is, frame-high, frame_divides, downsample_low, needed-is}
+use Rattle.settings.proofs.Passed.{one-channel, frame_is, frame-high, frame_divides, downsample_low, needed-is}
 use Rattle.deemphasis.specs.Deemphasis.{Sound, has_room, deemphasis, deemphasised, deemphasis_mono, deemphasis_stereo}
 use Rattle.frame_sound.specs.FrameSound.{frame_sound, sound_in}
 
@@ -59,8 +59,7 @@ module _ (k : Settings) (good : check_settings k ≡ 0) (h : List Float) (l : le
         → reply t y ≡ deemphasis_mono k.downsample (lent samples) m p → (t ≡ true) × (y ≡ sound_in p (frame_sound k m h))
     unfolding deemphasis_mono deemphasised sound_in frame_sound newest stereo
     mono-sound c e =
-        let one : k.channels ≡ 1 = omega (arith, passed k good, eqb-false k.channels 2 c) in
-        let f = fits (lent samples) (length p) (lent_length samples (lit≤ tt) (lit≤ tt)) (omega (arith, needs 1 one)) in (
+        let f = fits (lent samples) (length p) (lent_length samples (lit≤ tt) (lit≤ tt)) (omega (arith, needs 1 (one-channel k good c))) in (
           reply-taken _ _ _ e ∙ f,
           reply-lent _ _ _ e f
               ∙ ap (λ vs. sound_in p (deemphasis k.downsample vs m))

@@ -5,10 +5,9 @@ use mathlib.Core.List.{List}
 use Prim.Native.Nat.{ℕ, suc}
 use lib.ListN.{length}
 use lib.Ieee.{Float}
-use Rattle.settings.specs.Settings.{stereo, needed}
-use Rattle.settings.proofs.Passed.{or-zero}
+use Rattle.settings.specs.Settings.{stereo}
 use Rattle.state.specs.State.{searches}
-use Rattle.state.specs.Refusal.{check_pcm, refuses_state, refusal}
+use Rattle.state.specs.Refusal.{refuses_state, refusal}
 use Rattle.state.specs.declared.State.{State}
 use Rattle.state.proofs.Keep.{ok-start}
 use Rattle.pitch_lag.specs.Lag.{lag_of}
@@ -17,6 +16,7 @@ use Rattle.history.specs.History.{tails}
 use Rattle.loss.specs.Loss.{made, history_after, finish, concealed, answered, loss}
 use Rattle.loss.proofs.Fields.{made-kind, made_undrawn, made_lag, made_predictor}
 use Rattle.finish.specs.Call.{Refused}
+use Rattle.finish.proofs.End.{accepted_state}
 use Rattle.finish.proofs.Call.{finish_concludes, refused-leaves}
 use Rattle.loss.specs.Call.{Accepted}
 
@@ -38,8 +38,8 @@ module _ (s : State) (h : List Float) where
 
   module _ (p : ℕ) where
     pub accepted_call : refusal s (length h) p ≡ 0 → Accepted s h (loss s h p)
-    unfolding loss answered refusal
-    accepted_call z = rw z (accepted (or-zero (refuses_state s (length h)) (check_pcm (needed s.settings) p) z).0)
+    unfolding loss answered
+    accepted_call z = rw z (accepted (accepted_state s _ _ z))
 
     pub refused-call : (n : ℕ) → refusal s (length h) p ≡ suc n → Refused (suc n) s h (loss s h p)
     unfolding loss answered

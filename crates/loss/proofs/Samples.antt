@@ -8,14 +8,15 @@ use lib.ListN.{length, get_or}
 use lib.Seq.{slice, length-slice}
 use lib.Dec.{eqb}
 use lib.Ieee.{Float}
-use borrow.Author.Tests.{eqb-true, eqb-false}
+use borrow.Author.Tests.{eqb-true}
 use Rattle.history.specs.History.{samples, channel, whole, both, newest}
 use Rattle.settings.specs.Settings.{frame, stereo, check_settings, needed}
-use Rattle.state.specs.Refusal.{check_pcm, refuses_state, refusal}
+use Rattle.state.specs.Refusal.{refusal}
 use Rattle.settings.specs.declared.Settings.{Settings}
 use Rattle.state.specs.declared.State.{State}
-use Rattle.settings.proofs.Passed.{or-zero, passed, frame-high, needed-is, needed-most}
+use Rattle.settings.proofs.Passed.{one-channel, frame-high, needed-is, needed-most}
 use Rattle.state.proofs.Keep.{Ok, ok-start}
+use Rattle.finish.proofs.End.{accepted_state}
 use Rattle.deemphasis.specs.Deemphasis.{length_pcm}
 use Rattle.loss.specs.Loss.{history_after, frame_sound, finish, concealed, refused, answered, loss}
 use Rattle.loss.proofs.Keep.{after-length}
@@ -33,9 +34,7 @@ module _ (k : Settings) (good : check_settings k ≡ 0) where
           * (length (get_or (both b (slice (samples - frame k) samples h) (slice (channel + samples - frame k) (channel + samples) h)) 0 []) / k.downsample)
           ≡ k.channels * (frame k / k.downsample)
       go true e = ap₂ (λ c n. c * (n / k.downsample)) (sym (eqb-true k.channels 2 e)) size
-      go false e =
-          let one : 1 ≡ k.channels = omega (arith, passed k good, eqb-false k.channels 2 e) in
-          ap₂ (λ c n. c * (n / k.downsample)) one size
+      go false e = ap₂ (λ c n. c * (n / k.downsample)) (sym (one-channel k good e)) size
 
 module _ (s : State) (h : List Float) where
   numbered : (m : ℕ) → (m ≡ 0 → Ok s h)
@@ -47,5 +46,5 @@ module _ (s : State) (h : List Float) where
   numbered (suc m) f = (refl, omega arith)
 
   pub loss-samples : (p : ℕ) → (length (loss s h p).pcm ≡ (loss s h p).report.samples) × ((loss s h p).report.samples ≤ 1920)
-  unfolding loss refusal
-  loss-samples p = numbered (refusal s (length h) p) (λ e. ok-start s h (or-zero (refuses_state s (length h)) (check_pcm (needed s.settings) p) e).0)
+  unfolding loss
+  loss-samples p = numbered (refusal s (length h) p) (λ e. ok-start s h (accepted_state s _ _ e))

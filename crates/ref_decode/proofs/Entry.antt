@@ -1,19 +1,18 @@
 -- What the steps of a call make together.
-use Rattle.std.proofs.Common.{◌≡◌, refl, ap, ap₂, sym, ◌∙◌, true, false, List, ℕ, zero, suc, length, Result, Err}
+use Rattle.std.proofs.Common.{◌≡◌, refl, ap, ap₂, sym, ◌∙◌, true, false, List, length, Result, Err}
 use Rattle.std.specs.Prelude.{Float}
 use Rattle.history.specs.History.{tails, with_tails}
 use Rattle.settings.specs.Number.{number_of}
 use Rattle.settings.specs.declared.Refusal.{Refusal}
-use Rattle.settings.proofs.Table.{number_low}
 use Rattle.state.specs.State.{core, noisy}
 use Rattle.state.specs.Refusal.{refusal}
 use Rattle.state.specs.declared.State.{State}
 use Rattle.state.specs.declared.Answer.{Answer}
 use Rattle.finish.specs.declared.Made.{Made}
 use Rattle.finish.specs.Finish.{finished}
-use Rattle.finish.proofs.End.{finished_accepted, refused-is}
+use Rattle.finish.proofs.End.{finished_accepted, refused-as}
 use Rattle.loss.specs.Loss.{noise_made, pitch_made, made, tails_by_noise, tails_by_pitch, tails_after, history_after}
-use Rattle.loss.specs.Loss.{Outcome, outcome_of, finish, concealed, refused, answered, loss, in_buffer}
+use Rattle.loss.specs.Loss.{Outcome, outcome_of, finish, concealed, answered, loss, in_buffer}
 
 module _ (s : State) (h : List Float) where
   -- what either path makes is what the loss makes
@@ -36,14 +35,7 @@ module _ (s : State) (h : List Float) where
         f ∙ ap (in_buffer p) (sym (finished_accepted s m g p (ap (λ n. refusal s n (length p)) l ∙ z)))
         ∙ ap (in_buffer p) (ap₂ (finish s) a b ∙ ap (λ n. answered n s h) (sym z))
 
-    refuses : (n : ℕ) → (n ≡ 0 → ⊥) → refused n s h ≡ answered n s h
-    unfolding answered
-    refuses zero f = absurd (f refl)
-    refuses (suc n) f = refl
-
     pub refused-left : (r : Result Answer Refusal) (e : Refusal) → r ≡ Err e → number_of e ≡ refusal s (length h) (length p)
         → outcome_of s r p h ≡ in_buffer p (loss s h (length p))
-    unfolding loss
-    refused-left r e q f =
-        ap (λ z. outcome_of s z p h) q ∙ refused-is e s h p
-        ∙ ap (in_buffer p) (refuses (number_of e) (number_low e) ∙ ap (λ m. answered m s h) f)
+    unfolding loss answered
+    refused-left r e = refused-as s h p (λ n. answered n s h) (λ n. refl) r e

@@ -10,13 +10,13 @@ use Rattle.history.specs.History.{samples, channel, tails, oldest}
 use Rattle.history.proofs.Parts.{oldest-with}
 use Rattle.lag_laws.specs.NoPitch.{SignedZero}
 use Rattle.lag_laws.specs.FlatHistory.{silent_history, silent-pair, nan_history, nan-pair-first}
-use Rattle.settings.specs.Settings.{stereo, needed}
+use Rattle.settings.specs.Settings.{stereo}
 use Rattle.state.specs.State.{searches}
-use Rattle.state.specs.Refusal.{check_pcm, refuses_state, refusal}
+use Rattle.state.specs.Refusal.{refusal}
 use Rattle.state.specs.declared.State.{State}
-use Rattle.settings.proofs.Passed.{or-zero}
 use Rattle.state.proofs.Keep.{Ok, ok-start}
 use Rattle.pitch_lag.specs.Lag.{low_passed, lag_of}
+use Rattle.finish.proofs.End.{accepted_state}
 use Rattle.loss.specs.Loss.{made, tails_after, history_after, finish, concealed, refused, answered, loss}
 use Rattle.loss.proofs.Fields.{made_lag}
 use Rattle.loss.proofs.Keep.{after-sized}
@@ -25,8 +25,8 @@ use Rattle.runs.specs.Run.{Call, called, run, last_history}
 
 -- each channel's oldest 1,024 samples are unaltered by any call, on both paths and by refusals
 pub oldest-kept : (s : State) (h : List Float) (p : ℕ) → oldest (loss s h p).history ≡ oldest h
-unfolding loss refusal answered concealed refused finish history_after
-oldest-kept s h p = go (refusal s (length h) p) (λ e. ok-start s h (or-zero (refuses_state s (length h)) (check_pcm (needed s.settings) p) e).0)
+unfolding loss answered concealed refused finish history_after
+oldest-kept s h p = go (refusal s (length h) p) (λ e. ok-start s h (accepted_state s _ _ e))
   where
     go : (n : ℕ) → (n ≡ 0 → Ok s h) → oldest (answered n s h).history ≡ oldest h
     go zero f = let o = f refl in oldest-with h (tails_after s (made s h) (tails h)) o.history (after-sized s h o (made s h))

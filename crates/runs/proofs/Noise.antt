@@ -9,7 +9,7 @@ use lib.ListN.{drop}
 use lib.Seq.{slice}
 use lib.Ieee.{Float}
 use lib.Dec.{eqb}
-use borrow.Author.Tests.{eqb-true, eqb-false}
+use borrow.Author.Tests.{eqb-true}
 use Rattle.draw.specs.Draw.{draws}
 use Rattle.draw.proofs.Draws.{draws-add}
 use Rattle.custom_mode.specs.Mode.{last_edge}
@@ -19,7 +19,7 @@ use Rattle.settings.specs.Settings.{factor, frame, stereo, first_bin, draws_per_
 use Rattle.state.specs.State.{Core, core, noisy}
 use Rattle.settings.specs.declared.Settings.{Settings}
 use Rattle.state.specs.declared.State.{State}
-use Rattle.settings.proofs.Passed.{passed, frame-high}
+use Rattle.settings.proofs.Passed.{passed, one-channel, frame-high}
 use Rattle.state.proofs.Keep.{Ok}
 use Rattle.noise_cover.specs.Cover.{overlapped, covered_tail}
 use Rattle.noise_loss.specs.Loss.{noise_blocks, noise_seed, noise_tails}
@@ -87,13 +87,14 @@ module _ (s : State) (h : List Float) (o : Ok s h) (z : noisy (core s) ≡ true)
 
 -- the seed after a noise loss: its draws, whatever the energies
 module _ (k : Settings) (good : check_settings k ≡ 0) (seed : ℕ) (energies : List Float) where
-  draws_by : (d : ℕ) → (b : Bool) → eqb k.channels 2 ≡ b → (one two : ℕ) → one ≡ draws d seed → two ≡ draws d one → cond b two one ≡ draws (k.channels * d) seed
+  draws_by : (d : ℕ) → (b : Bool) → eqb k.channels 2 ≡ b
+      → (one two : ℕ) → one ≡ draws d seed → two ≡ draws d one → cond b two one ≡ draws (k.channels * d) seed
   draws_by d true e one two p q =
-      let n : d + d ≡ k.channels * d = (let z : d + d ≡ 2 * d = omega arith in z ∙ ap (λ n. n * d) (sym (eqb-true k.channels 2 e))) in
+      let z : d + d ≡ 2 * d = omega arith in
+      let n : d + d ≡ k.channels * d = z ∙ ap (λ n. n * d) (sym (eqb-true k.channels 2 e)) in
       q ∙ ap (draws d) p ∙ sym (draws-add d d seed) ∙ ap (λ n. draws n seed) n
   draws_by d false e one two p q =
-      let c : k.channels ≡ 1 = omega (arith, (passed k good).one, (passed k good).two, eqb-false k.channels 2 e) in
-      p ∙ ap (λ n. draws n seed) (sym (one-mul d) ∙ ap (λ n. n * d) (sym c))
+      p ∙ ap (λ n. draws n seed) (sym (one-mul d) ∙ ap (λ n. n * d) (sym (one-channel k good e)))
 
   pub noise_draws : noise_seed (stereo k) (noise_blocks k seed energies) ≡ draws (draws_per_loss k) seed
   unfolding noise_seed noise_blocks stereo draws_per_loss

@@ -99,6 +99,10 @@ module _ (k : Settings) (good : check_settings k ≡ 0) where
   unfolding frame factor
   frame-high = omega (arith, pow-le-pow_right {n = 2} (lit< tt) {i = k.lm} {j = 3} (passed k good).lm)
 
+  -- passed, and not stereo
+  pub one-channel : eqb k.channels 2 ≡ false → k.channels ≡ 1
+  one-channel e = omega (arith, passed k good, eqb-false k.channels 2 e)
+
   pub downsample_low : 1 ≤ k.downsample
   downsample_low = (divides 0 k.downsample (passed k good).downsample).0
 

@@ -1,6 +1,7 @@
 -- The code's way to each number of the table.
 use Rattle.std.proofs.Common.{◌≡◌, refl, ap, ◌∙◌, arith, Ok, Err}
-use Rattle.std.specs.Prelude.{Result}
+use Rattle.std.specs.Prelude.{Result, false, eqb}
+use borrow.Author.Tests.{ne_eqb}
 use Rattle.std.specs.Result.{IsErrAnd, result_and}
 use Rattle.std.proofs.lemmas.Result.{err_from_is_err_and}
 use Rattle.settings.specs.Number.{number_of, number_in, or_else}
@@ -26,6 +27,9 @@ number_low BadLag h = omega arith
 number_low BadFilter h = omega arith
 number_low BadHistory h = omega arith
 number_low ShortPcm h = omega arith
+
+pub refusal-counts : (e : Refusal) → eqb (number_of e) 0 ≡ false
+refusal-counts e = ne_eqb (number_of e) 0 (number_low e)
 
 -- Two results joined by `and` have the number that the table's join gives. No proof cites it: it stays, since it says what `or_else` means for
 -- checks that follow each other.

@@ -8,6 +8,7 @@ use lib.ListN.{length}
 use lib.Ieee.{Float}
 use lib.Dec.{leb, eqb}
 use borrow.Author.Tests.{leb-true, leb-false, le-leb, eqb-true, eq-eqb, not-false}
+use Rattle.std.proofs.Math.Bool.{or-true, and-true as and-same}
 use Rattle.loops.specs.Logic.{and-true, or-false}
 use Rattle.history.specs.History.{whole}
 use Rattle.post_filter.specs.Limits.{filter_fits}
@@ -82,10 +83,6 @@ noisy-more k c d u v e f g h n l = go (leb 5 c) refl n
     go : (a : Bool) → leb 5 c ≡ a → (a || not (eqb k.start 0)) ≡ true → (leb 5 d || not (eqb k.start 0)) ≡ true
     go true p q = rw (le-leb 5 d (omega (arith, leb-true 5 c p)))
     go false p q = rw q (or-true (leb 5 d))
-      where
-        or-true : (b : Bool) → (b || true) ≡ true
-        or-true true = refl
-        or-true false = refl
 
 -- a pitch loss: start 0 and loss count 0 to 4
 module _ (s : State) (e : noisy (core s) ≡ false) where
@@ -101,11 +98,7 @@ module _ (s : State) (e : noisy (core s) ≡ false) where
   -- the first searches, and a later one does not
   pub pitch_searches : searches s ≡ eqb s.loss_count 0
   unfolding searches
-  pitch_searches = rw (eq-eqb s.settings.start 0 pitch_start) (and_same (eqb s.loss_count 0))
-    where
-      and_same : (b : Bool) → (b && true) ≡ b
-      and_same true = refl
-      and_same false = refl
+  pitch_searches = rw (eq-eqb s.settings.start 0 pitch_start) (and-same (eqb s.loss_count 0))
 
 -- a noise loss searches nothing
 pub noise_searches : (s : State) → noisy (core s) ≡ true → searches s ≡ false

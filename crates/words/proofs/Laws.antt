@@ -5,7 +5,9 @@ use mathlib.Core.List.{List, [], ◌∷◌, ◌++◌}
 use Prim.Native.Nat.{ℕ, suc, min, ◌+◌, ◌*◌, ◌/◌, ◌%◌, ◌≤◌, ◌<◌}
 use native.Mathlib.Omega.{arith}
 use native.Mathlib.Nat.{div-one}
-use Rattle.std.proofs.Common.{append_assoc, None, Some}
+use Rattle.std.proofs.Common.{append_assoc, None, Some, true≢false}
+use Rattle.std.specs.Prelude.{Result, Err, is_ok}
+use Rattle.reply.specs.declared.Refused.{Refused}
 use lib.ListN.{length, get_or}
 use Rattle.std.specs.Int.{w32, to_le_bytes}
 use Rattle.std.specs.Simd.{first_chunks}
@@ -17,10 +19,15 @@ use lib.Dec.{leb}
 use borrow.Author.Tests.{le-leb, lt-leb, leb-true, leb-false}
 use Rattle.loops.specs.Chunks.{chunk_at}
 use Rattle.loops.specs.Part.{put, put_next}
-use Rattle.reply.specs.Reply.{reply, reply_if, reply-lent, reply-taken}
+use Rattle.reply.specs.Reply.{reply, reply_if, replied, reply-lent, reply-taken}
 use Rattle.loops.specs.Pick.{pick_true, pick-false}
 use Rattle.loops.specs.Front.{tab, length-tab, front, tab-none, tab-all}
 use Rattle.words.specs.Bytes.{holds, word_at, byte_of, bytes_by}
+
+-- a call that takes what it was given is not refused
+pub never : {A V G : Type 0} (b : Bool) (x was : A) {y : A} {r : Result V Refused} {e : Refused} → replied r y ≡ reply_if b x was → b ≡ true
+    → r ≡ Err e → G
+never b x was q t f = absurd (true≢false (sym (reply-taken b x was q ∙ t) ∙ ap is_ok f))
 
 module _ (b : List ℕ) (i : ℕ) where
   pub holds-true : (n : ℕ) → 4 * (i + n) ≤ length b → holds b i n ≡ true
@@ -75,7 +82,8 @@ word_same b i m n l e = go (leb i n) refl
         word-past b m (omega arith) ∙ sym (word-past b i (omega arith))
 
 -- the value of a word whose number was added to as far as it goes
-pub value_same : {A : Type 0} (f : ℕ → A) (b : List ℕ) (i m n w : ℕ) (v : A) → length b ≤ n → m ≡ min i n → w ≡ word_at b m → v ≡ f w → v ≡ f (word_at b i)
+pub value_same : {A : Type 0} (f : ℕ → A) (b : List ℕ) (i m n w : ℕ) (v : A) → length b ≤ n → m ≡ min i n → w ≡ word_at b m → v ≡ f w
+    → v ≡ f (word_at b i)
 value_same f b i m n w v l e p q = q ∙ ap f (p ∙ word_same b i m n l e)
 
 pub length-bytes : (w : ℕ → ℕ) (n : ℕ) → length (bytes_by w n) ≡ 4 * n

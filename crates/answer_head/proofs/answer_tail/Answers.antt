@@ -1,9 +1,8 @@
 -- `answer_tail` meets its contract: nothing for nothing, three words for a cut record.
-use Rattle.std.proofs.Common.{true≢false, ap, sym, ◌∙◌, arith}
+use Rattle.std.proofs.Common.{arith}
 use Rattle.std.proofs.lemmas.Bool.Decides.{nat_tests}
-use Rattle.std.specs.Prelude.{is_ok}
 use Rattle.reply.specs.Reply.{reply-yes}
-use Rattle.words.proofs.Laws.{put-held, put-taken}
+use Rattle.words.proofs.Laws.{holds-true, never, put-held}
 use Rattle.answer_head.proofs.Heads.{tail_none, tail-cut}
 use Rattle.answer_head.proofs.answer_tail.Goals as goal
 
@@ -13,8 +12,7 @@ returns-then-n-eq0 c =
     reply-yes _ _ _ (grind (arith, nat_tests)) (tail_none c.args.n c.args.head.now room c.if-n-eq0.true)
 
 pub returns-in_err-put_values_at : goal.returns-in_err-put_values_at
-returns-in_err-put_values_at c =
-    absurd (true≢false (sym (put-taken c.args.head.now 0 3 _ c.put_values_at.ensures (omega arith)) ∙ ap is_ok c.in_err-put_values_at.was))
+returns-in_err-put_values_at c = never _ _ _ c.put_values_at.ensures (holds-true c.args.head.now 0 3 (omega arith)) c.in_err-put_values_at.was
 
 pub returns : goal.returns
 returns c =

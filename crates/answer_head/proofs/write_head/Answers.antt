@@ -1,20 +1,17 @@
 -- `write_head` meets its contract: three words, and the samples behind them.
-use Rattle.std.proofs.Common.{true≢false, ap, sym, ◌∙◌, length, arith}
-use Rattle.std.specs.Prelude.{is_ok}
+use Rattle.std.proofs.Common.{length, arith}
 use Rattle.reply.specs.Reply.{reply-yes}
-use Rattle.words.proofs.Laws.{put-held, put-taken}
+use Rattle.words.proofs.Laws.{holds-true, never, put-held}
 use Rattle.answer_head.proofs.Heads.{head-fits, head-written}
 use Rattle.answer_head.proofs.write_head.Goals as goal
 
 pub returns-in_err-put_values_at : goal.returns-in_err-put_values_at
-returns-in_err-put_values_at c =
-    absurd (true≢false (sym (put-taken c.args.head.now 0 3 _ c.put_values_at.ensures (omega arith)) ∙ ap is_ok c.in_err-put_values_at.was))
+returns-in_err-put_values_at c = never _ _ _ c.put_values_at.ensures (holds-true c.args.head.now 0 3 (omega arith)) c.in_err-put_values_at.was
 
 pub returns-in_err-put_values_at-2 : goal.returns-in_err-put_values_at-2
 returns-in_err-put_values_at-2 c =
-    let n = length c.args.pcm.now in
-    let taken = put-taken c.put_values_at.new.b 3 n _ c.put_values_at-2.ensures (omega (arith, c.put_values_at.auto.b)) in
-    absurd (true≢false (sym taken ∙ ap is_ok c.in_err-put_values_at-2.was))
+    let room = holds-true c.put_values_at.new.b 3 (length c.args.pcm.now) (omega (arith, c.put_values_at.auto.b)) in
+    never _ _ _ c.put_values_at-2.ensures room c.in_err-put_values_at-2.was
 
 pub returns : goal.returns
 returns c =

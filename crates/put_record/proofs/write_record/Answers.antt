@@ -1,10 +1,9 @@
 -- `write_record` meets its contract: the history behind the state.
-use Rattle.std.proofs.Common.{◌≡◌, ◌+◌, ◌*◌, ◌≤◌, true≢false, refl, ap, sym, ◌∙◌, length, arith, rules}
-use Rattle.std.specs.Prelude.{is_ok}
+use Rattle.std.proofs.Common.{◌≡◌, ◌+◌, ◌*◌, ◌≤◌, refl, ap, ◌∙◌, length, arith, rules}
 use Rattle.std.proofs.lemmas.Bool.Decides.{nat_tests}
 use Rattle.record.specs.Record.{writable}
 use Rattle.reply.specs.Reply.{reply, reply-yes, reply-no}
-use Rattle.words.proofs.Laws.{put-held, put-taken}
+use Rattle.words.proofs.Laws.{holds-true, never, put-held, put-taken}
 use Rattle.state_words.specs.Words.{state_length}
 use Rattle.put_record.proofs.Parts.{record-parts}
 use Rattle.put_record.proofs.write_record.Goals as goal
@@ -15,8 +14,7 @@ returns-then-b-ne-BYTES c = reply-no _ _ _ (grind (arith, nat_tests)) refl
 
 pub returns-in_err-put_values_at : goal.returns-in_err-put_values_at
 returns-in_err-put_values_at c =
-    let taken = put-taken c.args.b.now 0 (length c.to_words.result) _ c.put_values_at.ensures (omega arith) in
-    absurd (true≢false (sym taken ∙ ap is_ok c.in_err-put_values_at.was))
+    never _ _ _ c.put_values_at.ensures (holds-true c.args.b.now 0 (length c.to_words.result) (omega arith)) c.in_err-put_values_at.was
 
 pub returns : goal.returns
 unfolding writable
