@@ -1,11 +1,11 @@
 // Op 801: one channel's pitch loss.
 use crate::streams::Wire;
-use custom_mode::standard::BANDS;
 use pitch_loss::{Pitch, pitch_loss};
 use pitch_predictor::fit_predictor;
 use plc_pad::ORDER;
 use post_filter::Filter;
 use settings::Settings;
+use settings::checks::BANDS;
 use std::io;
 
 // Gain, period and tapset.
@@ -22,8 +22,7 @@ fn mono(lm: u32) -> Settings {
         lm,
         channels: 1,
         start: 0,
-        // By `as`: std has no `From` of usize to u32.
-        end: BANDS as u32,
+        end: BANDS,
         downsample: 1,
     }
 }
