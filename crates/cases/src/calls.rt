@@ -12,7 +12,7 @@ use words::values_at;
 const LENT_MOST: usize = WHOLE + 1;
 
 // A decoder's state and the history that its calls are lent.
-// The PCM buffer stands beside it: through a reference to a struct one call is not lent two of its fields.
+// The PCM buffer stands beside it: behind a reference the check lends a part of one field, and no other field with it.
 #[derive(Drop)]
 pub(crate) struct Decoder {
     pub state: State,
