@@ -2,6 +2,7 @@
 pub mod Fold
 pub mod Front
 pub mod Part
+pub mod PartRead
 pub mod Chunks
 pub mod Sum
 pub mod Pick

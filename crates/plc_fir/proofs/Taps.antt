@@ -1,28 +1,23 @@
 -- the padded buffer of the all-zero filter, and its taps row by row
-use mathlib.Core.Path.{◌≡◌, ap, ◌∙◌, sym}
-use mathlib.Core.List.{List, ◌++◌}
+use mathlib.Core.Path.{◌≡◌, refl, ap, ◌∙◌, sym}
+use mathlib.Core.List.{List}
 use Prim.Native.Nat.{ℕ, ◌+◌, ◌-◌, ◌≤◌}
 use native.Mathlib.Omega.{arith}
-use lib.ListN.{length, get_or, take, drop, get_or-append}
-use lib.Seq.{get_or-take, get_or-append-add, length-take-le}
+use lib.ListN.{length, get_or}
 use lib.Ieee.{Float, nan, binary32, add}
 use Rattle.loops.specs.Front.{tab, tab-same, tab-list, get_or-tab}
 use Rattle.loops.specs.Part.{put}
+use Rattle.loops.specs.PartRead.{put_before, put_inside}
 use Rattle.loops.specs.Sum.{sum-none, sum_more}
 use Rattle.plc_pad.specs.Pad.{Remembers, Holds, tap, taps_row}
 
 -- samples copied behind the memory
 module _ (mem xs pad y : List Float) (n : ℕ) (l : 24 ≤ length pad) where
   pub remembers_put : Remembers pad mem → length mem ≤ 24 → Remembers (put 24 n y pad) mem
-  remembers_put r m k h =
-      get_or-append (take 24 pad) (y ++ drop n (drop 24 pad)) nan (23 - k) (omega (arith, length-take-le 24 pad l))
-      ∙ get_or-take 24 pad (23 - k) nan (omega arith) ∙ r k h
+  remembers_put r m k h = put_before 24 n y pad l nan (23 - k) (omega arith) ∙ r k h
 
   pub holds-put : y ≡ xs → Holds (put 24 n y pad) xs (length xs)
-  holds-put e i h =
-      let q : length (take 24 pad) ≡ 24 = length-take-le 24 pad l in
-      ap (λ z. get_or (put 24 n y pad) (z + i) nan) (sym q) ∙ get_or-append-add (take 24 pad) (y ++ drop n (drop 24 pad)) i nan
-      ∙ get_or-append y (drop n (drop 24 pad)) nan i (omega (arith, ap length e)) ∙ ap (λ z. get_or z i nan) e
+  holds-put e i h = put_inside 24 n y pad l nan i (24 + i) refl (omega (arith, ap length e)) ∙ ap (λ z. get_or z i nan) e
 
 -- tap j on each sample of xs, row by row
 abbrev pub tap_on : List Float → List Float → List Float → ℕ → ℕ → Float

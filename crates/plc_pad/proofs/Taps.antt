@@ -5,8 +5,8 @@ use mathlib.Core.List.{List, ◌++◌, reverse}
 use Prim.Native.Nat.{ℕ, zero, suc, ◌+◌, ◌-◌, ◌≤◌, ◌<◌}
 use native.Mathlib.Omega.{arith}
 use lib.Dec.{eqb, ltb}
-use lib.ListN.{length, get_or, take, drop, set, length-set, length-drop, length-append, length-reverse, get_or-append, replicate, length-replicate}
-use lib.Seq.{get_or-take, get_or-drop, get_or-append-add, length-take-le, ext_get_or, get_or-set_same, get_or-set_other}
+use lib.ListN.{length, get_or, take, drop, set, length-set, length-drop, length-append, length-reverse, replicate, length-replicate}
+use lib.Seq.{get_or-take, get_or-drop, length-take-le, ext_get_or, get_or-set_same, get_or-set_other}
 use Rattle.std.proofs.lemmas.List.{get_or-reverse, get_or_default}
 use Rattle.std.proofs.lemmas.Slice.Zip.{length-zip, get_or-zip}
 use Rattle.std.specs.List.{zip}
@@ -14,6 +14,7 @@ use lib.Ieee.{Float, nan, binary32, sub, mul}
 use borrow.Author.Tests.{eqb-true, eqb-false, ltb-true, ltb-false}
 use Rattle.std.proofs.lemmas.Bool.Decides.{nat_tests}
 use Rattle.loops.specs.Part.{put}
+use Rattle.loops.specs.PartRead.{put_before, put_inside, put_behind}
 use Rattle.loops.specs.Fold.{fold_to, fold_same, fold_more, fold-keeps}
 use Rattle.reply.specs.Reply.{reply, reply_if, reply-lent, reply-taken}
 use Rattle.plc_pad.specs.Past.{past}
@@ -66,34 +67,20 @@ module _ (mem pad y : List Float) (m : length mem ≤ 24) (l : 24 ≤ length pad
   put_read i g = go (ltb i at) (ltb i 24) refl refl
     where
       go : (b c : Bool) → ltb i at ≡ b → ltb i 24 ≡ c → get_or (put at (length mem) y pad) i nan ≡ get_or (remembered_to mem pad (length mem)) i nan
-      go true c p q =
-          let h : i < at = ltb-true i at p in
-          get_or-append (take at pad) (y ++ drop (length mem) (drop at pad)) nan i (omega (arith, before)) ∙ get_or-take at pad i nan h
-          ∙ sym (kept_to mem pad (length mem) i (λ k u v. omega arith))
+      go true c p q = put_before at (length mem) y pad (omega arith) nan i (ltb-true i at p) ∙ sym (kept_to mem pad (length mem) i (λ k u v. omega (arith, ltb-true i at p)))
       go false true p q =
           let h : at ≤ i = ltb-false i at p in
           let h' : i < 24 = ltb-true i 24 q in
           let j : ℕ = i - at in
-          let s : i ≡ length (take at pad) + j = omega (arith, before) in
           let w : length mem - 1 - j ≡ 23 - i = omega arith in
           let w' : 23 - (23 - i) ≡ i = omega arith in
-          ap (λ z. get_or (put at (length mem) y pad) z nan) s
-          ∙ get_or-append-add (take at pad) (y ++ drop (length mem) (drop at pad)) j nan
-          ∙ get_or-append y (drop (length mem) (drop at pad)) nan j (omega (arith, size))
+          put_inside at (length mem) y pad (omega arith) nan j i (omega arith) (omega (arith, size))
           ∙ ap (λ z. get_or z j nan) e ∙ get_or-reverse mem j nan (omega arith) ∙ ap (λ z. get_or mem z nan) w
           ∙ sym (remembers_to mem pad (length mem) m l (23 - i) (omega arith))
           ∙ ap (λ z. get_or (remembered_to mem pad (length mem)) z nan) w'
       go false false p q =
           let h : 24 ≤ i = ltb-false i 24 q in
-          let j : ℕ = i - 24 in
-          let s : i ≡ length (take at pad) + (length y + j) = omega (arith, before, size) in
-          let w : at + (length mem + j) ≡ i = omega arith in
-          ap (λ z. get_or (put at (length mem) y pad) z nan) s
-          ∙ get_or-append-add (take at pad) (y ++ drop (length mem) (drop at pad)) (length y + j) nan
-          ∙ get_or-append-add y (drop (length mem) (drop at pad)) j nan
-          ∙ get_or-drop (length mem) (drop at pad) j nan ∙ get_or-drop at pad (length mem + j) nan
-          ∙ ap (λ z. get_or pad z nan) w
-          ∙ sym (kept_to mem pad (length mem) i (λ k u v. omega arith))
+          put_behind at (length mem) y pad (omega arith) nan i size (omega arith) ∙ sym (kept_to mem pad (length mem) i (λ k u v. omega arith))
 
   put_size : length (put at (length mem) y pad) ≡ length (remembered_to mem pad (length mem))
   put_size =

@@ -22,18 +22,19 @@ truncating_f64_to_i64-requires c =
     record { lower_bound = cut-lower _ f.few f.s _ f.value; upper_bound = cut-upper _ f.few f.s _ f.value }
 
 -- the sum, whose parts fit
+found-in : (c : After-truncating_f64_to_i64) → Floored c.floor.result (steps c.args.x)
+found-in c = found (goal.at.After-truncating_f64_to_i64 c).After-floor
+
 sum-is : (c : After-truncating_f64_to_i64)
     → to_z w64 (of_z w64 c.cast_signed.result) +ℤ to_z w64 (of_z w64 c.truncating_f64_to_i64.result) ≡ pos (steps c.args.x)
 sum-is c =
-    let f = found (goal.at.After-truncating_f64_to_i64 c).After-floor in
+    let f = found-in c in
     ap₂ ◌+ℤ◌ (to_z-of_z {w = w64} (search rules) ∙ c.cast_signed.ensures) (to_z-of_z {w = w64} (search rules) ∙ c.truncating_f64_to_i64.ensures)
     ∙ total _ _ _ f.few f.value ∙ ap pos f.is
 
 sum-fits : (c : After-truncating_f64_to_i64)
     → FitsSigned w64 (to_z w64 (of_z w64 c.cast_signed.result) +ℤ to_z w64 (of_z w64 c.truncating_f64_to_i64.result))
-sum-fits c =
-    let f = found (goal.at.After-truncating_f64_to_i64 c).After-floor in
-    subst (FitsSigned w64) (sym (sum-is c)) (record { sfits = omega (arith, f.most) })
+sum-fits c = let f = found-in c in subst (FitsSigned w64) (sym (sum-is c)) (record { sfits = omega (arith, f.most) })
 
 pub overflow_add-cast_signed : goal.overflow_add-cast_signed
 overflow_add-cast_signed c = sum-fits (goal.at.overflow_add-cast_signed c).After-truncating_f64_to_i64
@@ -41,7 +42,7 @@ overflow_add-cast_signed c = sum-fits (goal.at.overflow_add-cast_signed c).After
 pub returns : goal.returns
 returns c =
     let a = (goal.at.returns c).After-truncating_f64_to_i64 in
-    let f = found (goal.at.returns c).After-floor in
+    let f = found-in a in
     let q = steps c.args.x in
     let e = c.cast_unsigned.ensures ∙ ap (of_z w64) (to_z-of_z {w = w64} (sum-fits a) ∙ sum-is a ∙ sym (to_z_pos w64 q (omega (arith, f.most))))
     ∙ of_z-to_z {w = w64} {n = q} (record { fits = omega (arith, f.most) }) in
