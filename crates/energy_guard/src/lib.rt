@@ -6,8 +6,8 @@ ghost use Rattle.std.specs.Prelude.{◌≡◌};
 ghost use Rattle.buffers.specs.Buffers.{zero32, energy};
 ghost use Rattle.energy_guard.specs.Guard.{muted, guarded};
 
-// Whether the samples were zeroed.
-// A struct: the contract gives the verdict by its name, and a bare bool would not say which it is. The path of a loss reads none.
+// Whether the samples were zeroed; no step of a loss reads it.
+// A struct: the contract gives the verdict by its name, and a bare bool would not say which it is.
 #[derive(Clone, Copy)]
 pub struct Guarded {
     pub muted: bool,

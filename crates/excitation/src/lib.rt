@@ -17,6 +17,7 @@ use reply::Refused;
 mod decay;
 
 // What a channel is continued from: its newest samples, the lag of their pitch, the predictor fitted to them.
+// newest is a slice: another length than 1,024 is promised a refusal.
 #[derive(Clone, Copy)]
 pub struct Voice<'a> {
     pub newest: &'a [f32],
@@ -34,7 +35,7 @@ pub fn repeat_cycle(e: &mut [f32], voice: Voice, mem: &[f32; ORDER]) -> Result<f
         (pitch_cycle (length e.old) voice.entry.lpc.now mem.now voice.entry.newest.now voice.entry.lag) (cycle e.old zero32) }
 {
     let Voice { newest, lag, lpc } = voice;
-    let mut exc = <[f32; HALF]>::try_from(newest).map_err(|_| Refused)?;
+    let mut exc = <[f32; HALF]>::try_from(newest)?;
     let period = decay::decay_period(lag);
     // Of the excitation, the last two periods are all that is read.
     let from = HALF - 2 * period;

@@ -19,7 +19,7 @@ use plc_pad::ORDER;
 use reply::Refused;
 
 // What is extrapolated at most: as many as the filter takes.
-pub const LONGEST: usize = plc_iir::LONGEST;
+pub use plc_iir::LONGEST;
 
 // Here and below `first` answers a question, whether no loss came before:
 // a bool, since a caller has it as a comparison, `loss_count == 0`.
@@ -31,7 +31,7 @@ fn fade_of(first: bool) -> f32
 }
 
 // The newest 24, the most recent first, as the filters' contracts count their memory.
-// A slice here and below, as a `Voice` has it: an array in that public struct would ask more of callers.
+// A slice here and below, as a `Voice` has it.
 fn most_recent(newest: &[f32]) -> [f32; ORDER]
     requires { length newest.now ≡ half }
     ensures { result ≡ recent newest.now }
@@ -93,7 +93,8 @@ pub fn extrapolate_pair(
 ) -> Result<(), Refused>
     ensures { replied result (channels e0.new e1.new)
         ≡ reply_if
-        (extrapolate_pair_takes (length e0.old) (length e1.old) (length voice0.entry.newest.now) (length voice1.entry.newest.now) voice0.entry.lag voice1.entry.lag)
+        (extrapolate_pair_takes (length e0.old) (length e1.old) (length voice0.entry.newest.now) (length voice1.entry.newest.now)
+        voice0.entry.lag voice1.entry.lag)
         (channels (extrapolated (length e0.old) voice0.entry.newest.now voice0.entry.lag first voice0.entry.lpc.now)
         (extrapolated (length e1.old) voice1.entry.newest.now voice1.entry.lag first voice1.entry.lpc.now))
         (channels e0.old e1.old) }

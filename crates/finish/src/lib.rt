@@ -8,7 +8,7 @@ ghost use Rattle.finish.specs.Finish.{finish, outcome_of, in_buffer, finished};
 
 use custom_mode::standard::ENERGIES;
 use frame_sound::frame_sound;
-use plc_pad::ORDER;
+use plc_pad::COEFFICIENTS;
 use settings::Refusal;
 use sizes::needed_samples;
 use state::checks::first_refusal;
@@ -21,7 +21,7 @@ pub struct Made {
     pub seed: u32,
     pub lag: u32,
     pub coarse: [f32; ENERGIES],
-    pub predictor: [f32; 2 * ORDER],
+    pub predictor: [f32; COEFFICIENTS],
 }
 
 // From what a path made and the history that it left.

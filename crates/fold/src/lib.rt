@@ -32,7 +32,7 @@ pub fn fold_tail(over: &mut [f32], x: &[f32]) -> Result<(), Refused>
     if over.len() != OVERLAP {
         return Err(Refused);
     }
-    let x = <&[f32; OVERLAP]>::try_from(x).map_err(|_| Refused)?;
+    let x = <&[f32; OVERLAP]>::try_from(x)?;
     let w = celt_window::window();
     // By place: each reads x and the window from both ends.
     for (k, place) in over.iter_mut().enumerate() {

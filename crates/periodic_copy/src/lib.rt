@@ -54,6 +54,7 @@ pub fn periodic_copy(
         (cycle (periodic_copy exc.now lag decay (length e.old)) (copied_energy newest.now lag (length e.old)))
         (cycle e.old zero32) }
 {
+    // Two tests, not `contains`: the proof of the copy has both limits from them.
     if newest.len() != HALF || lag < 1 || HALF < lag {
         return Err(Refused);
     }

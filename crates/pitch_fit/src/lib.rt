@@ -22,7 +22,7 @@ pub fn pitch_fit(newest: &[f32], lpc: &mut [f32]) -> Result<(), Refused>
     if lpc.len() != ORDER {
         return Err(Refused);
     }
-    let newest = <&[f32; HALF]>::try_from(newest).map_err(|_| Refused)?;
+    let newest = <&[f32; HALF]>::try_from(newest)?;
     let mut ac = celt_autocorr_windowed(newest, &celt_window::window());
     lag_window(&mut ac)?;
     celt_lpc(lpc, &ac)

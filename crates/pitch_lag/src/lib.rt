@@ -19,7 +19,7 @@ fn low_pass(two: bool, history: &[f32; WHOLE]) -> [f32; HALF]
 {
     let mut low = [0.0f32; HALF];
     let second = two.then_some(&history[CHANNEL..SECOND_END]);
-    pitch_downsample(&history[0..SAMPLES], second, &mut low).unwrap();
+    pitch_downsample(&history[..SAMPLES], second, &mut low).unwrap();
     low
 }
 
@@ -27,7 +27,7 @@ fn low_pass(two: bool, history: &[f32; WHOLE]) -> [f32; HALF]
 pub fn find_lag(two: bool, history: &[f32]) -> Result<u32, Refused>
     ensures { result ≡ ok_if (eqb (length history.now) whole) (lag_of two history.now) }
 {
-    let history = <&[f32; WHOLE]>::try_from(history).map_err(|_| Refused)?;
+    let history = <&[f32; WHOLE]>::try_from(history)?;
     let low = low_pass(two, history);
     // `as`: the library has no `From` of a usize for u32; a lag is 720 at most.
     Ok((LAG_MOST - pitch_search(&low)) as u32)

@@ -6,7 +6,7 @@ use Prim.Native.Nat.{ℕ, ◌+◌, ◌*◌, ◌≤◌}
 use native.Mathlib.Omega.{arith}
 use lib.Dec.{eqb, leb}
 use lib.ListN.{length, take, drop, length-drop}
-use lib.Seq.{length-take-le, take_all, take_at}
+use lib.Seq.{length-take-le, take_at}
 use lib.Ieee.{Float}
 use borrow.Author.Tests.{eqb-true, leb-true, eq-eqb, ne_eqb, le-leb}
 use Rattle.loops.specs.Logic.{and-true, and_first, and_second, cond_either}
@@ -102,8 +102,8 @@ module _ (n lag : ℕ) (first : Bool) (h c : List Float) (ln : n ≤ longest_fra
   both-take e₀ d₀ l m =
       pair-takes _ _ _ _ lag lag (front-size n e₀ ln l ∙ sym (front-size n d₀ ln m)) (one-takes e₀ l) (taken _ _ (front-size n d₀ ln m) second-size)
 
-  pub both_follow : (e₀ d₀ e d c₀ k₀ : List Float) (b : Bool) → length c ≡ order + order → length e₀ ≡ longest → length d₀ ≡ longest
-      → c₀ ≡ take order c → k₀ ≡ take order (drop order c)
+  pub both_follow : (e₀ d₀ e d c₀ k₀ : List Float) (b : Bool) → length e₀ ≡ longest → length d₀ ≡ longest
+      → c₀ ≡ take order c → k₀ ≡ drop order c
       → reply b (channels e d)
       ≡ reply_if
       (extrapolate_pair_takes (length (take (n + extra) e₀)) (length (take (n + extra) d₀)) (length (take half (drop half h)))
@@ -113,10 +113,10 @@ module _ (n lag : ℕ) (first : Bool) (h c : List Float) (ln : n ≤ longest_fra
       (channels (take (n + extra) e₀) (take (n + extra) d₀))
       → (take (n + extra) (e ++ drop (n + extra) e₀) ≡ extrapolated (n + extra) (tails h).first.new lag first (take order c))
       × (take (n + extra) (d ++ drop (n + extra) d₀) ≡ extrapolated (n + extra) (tails h).second.new lag first (drop order c))
-  both_follow e₀ d₀ e d c₀ k₀ b lc l m p q r =
+  both_follow e₀ d₀ e d c₀ k₀ b l m p q r =
       let g = reply-lent _ _ _ r (both-take e₀ d₀ l m) in (
         follows e e₀ _ _ c₀ _ (ap (λ v. v.first) g) l new-first p,
-        follows d d₀ _ _ k₀ _ (ap (λ v. v.second) g) m new-second (q ∙ take_all order (drop order c) (omega (arith, length-drop order c))),
+        follows d d₀ _ _ k₀ _ (ap (λ v. v.second) g) m new-second q,
       )
 
 -- ---- a frame taken in

@@ -11,16 +11,7 @@ use crate::Pitch;
 use excitation::Voice;
 use extrapolate::{LONGEST, extrapolate, extrapolate_pair};
 use history::{CHANNEL, EXTRA, HALF, SAMPLES, SECOND_END, SECOND_HALF, WHOLE};
-use plc_pad::ORDER;
 use take_in::take_in;
-
-// The 24 coefficients from `from` on.
-fn coefficients(predictor: [f32; 2 * ORDER], from: usize) -> [f32; ORDER]
-    requires { from ≤ order }
-    ensures { result ≡ take order (drop from predictor) }
-{
-    predictor[from..from + ORDER].try_into().unwrap()
-}
 
 // A lost frame that is taken: n samples, by a pitch within its limits.
 #[derive(Clone, Copy)]
@@ -50,12 +41,12 @@ impl Loss {
             Voice {
                 newest: &h[HALF..SAMPLES],
                 lag,
-                lpc: &coefficients(self.pitch.predictor, 0),
+                lpc: self.pitch.predictor.first_chunk().unwrap(),
             },
             Voice {
                 newest: &h[SECOND_HALF..SECOND_END],
                 lag,
-                lpc: &coefficients(self.pitch.predictor, ORDER),
+                lpc: self.pitch.predictor.last_chunk().unwrap(),
             },
             self.pitch.first,
         )
@@ -63,6 +54,7 @@ impl Loss {
     }
 
     // The front of e comes in at the end of t, a channel's newest 1,024 and its overlap.
+    // t is a slice, as `take_in` asks for one and promises a refusal: an array would be made only to be lent as a slice.
     fn take_front(self, t: &mut [f32], e: &[f32; LONGEST])
         requires { length t.old ≡ half + overlap }
         ensures { t.new ≡ tail_list (tail_after self.n (take (self.n + extra) e.now) self.pitch.filter (tail_of t.old)) }
@@ -84,7 +76,7 @@ impl Loss {
             Voice {
                 newest: &history[HALF..SAMPLES],
                 lag: self.pitch.lag as usize,
-                lpc: &coefficients(self.pitch.predictor, 0),
+                lpc: self.pitch.predictor.first_chunk().unwrap(),
             },
             self.pitch.first,
         )

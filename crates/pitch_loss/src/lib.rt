@@ -11,7 +11,7 @@ ghost use Rattle.pitch_loss.specs.PitchLoss.{pitch_tails, pitch_takes};
 
 use channels::Loss;
 use history::WHOLE;
-use plc_pad::ORDER;
+use plc_pad::COEFFICIENTS;
 use post_filter::{Filter, filter_fits};
 use reply::Refused;
 use settings::Settings;
@@ -28,7 +28,7 @@ pub struct Pitch {
     // Whether no loss came before: a bool, since a caller has it as a comparison, `loss_count == 0`.
     pub first: bool,
     // 24 coefficients of either channel.
-    pub predictor: [f32; 2 * ORDER],
+    pub predictor: [f32; COEFFICIENTS],
     pub filter: Filter,
 }
 

@@ -9,7 +9,7 @@ ghost use Rattle.pitch_predictor.specs.Predictor.{fitted_to};
 
 use history::{HALF, SAMPLES, SECOND_END, SECOND_HALF, WHOLE};
 use pitch_fit::pitch_fit;
-use plc_pad::ORDER;
+use plc_pad::{COEFFICIENTS, ORDER};
 use reply::Refused;
 
 // The used channels' coefficients fitted anew; an unused channel's are carried. Refused: a history not of 4,336 samples.
@@ -17,8 +17,8 @@ use reply::Refused;
 pub fn fit_predictor(
     two: bool,
     history: &[f32],
-    predictor: [f32; 2 * ORDER],
-) -> Result<[f32; 2 * ORDER], Refused>
+    predictor: [f32; COEFFICIENTS],
+) -> Result<[f32; COEFFICIENTS], Refused>
     ensures { result ≡ ok_if (eqb (length history.now) whole) (fitted_to two predictor (tails history.now)) }
 {
     if history.len() != WHOLE {

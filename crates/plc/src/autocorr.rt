@@ -13,6 +13,7 @@ pub const WHITENING: usize = 4;
 const NOISE_FLOOR: f32 = 10.0;
 
 // The terms of each lag whose later sample stands before the longest lag.
+// Slices here and below, not arrays of a size that each caller has: the contracts count by the row's length.
 // The lag by the place of its sum: a zip with `iter_mut` tells a proof the items, not the list that they leave.
 fn first_terms(x: &[f32], row: &mut [f32])
     requires { (0 < length row.old) × (length row.old ≤ length x.now) }
@@ -45,7 +46,7 @@ fn other_terms(x: &[f32], row: &mut [f32])
 
 // The correlations at the lags below LAGS, the noise floor on the first.
 fn correlations<const LAGS: usize>(x: &[f32; HALF]) -> [f32; LAGS]
-    requires { (0 < LAGS) × (LAGS ≤ 1024) }
+    requires { (0 < LAGS) × (LAGS ≤ HALF) }
     ensures { result ≡ celt_autocorr x.now LAGS }
 {
     let mut row = [0.0f32; LAGS];
@@ -56,7 +57,8 @@ fn correlations<const LAGS: usize>(x: &[f32; HALF]) -> [f32; LAGS]
     row
 }
 
-// The correlations that the whitening's predictor needs. A size each, here and below: of any number of lags the function would need a `requires`.
+// The correlations that the whitening's predictor needs.
+// A size each, here and below: of any number of lags the function would need a `requires`.
 pub fn celt_autocorr(x: &[f32; HALF]) -> [f32; WHITENING + 1]
     ensures { result ≡ celt_autocorr x.now 5 }
 {

@@ -6,6 +6,7 @@ ghost use Rattle.std.specs.Prelude.{◌≡◌, ◌+◌, ◌≤◌, length};
 ghost use Rattle.plc_best.specs.Best.{beats, ranked, considered, find_best_pitch, best_pitches};
 
 // A place, with its squared correlation and the energy of the samples there.
+// Public, as `Best` is: definitions of plc_search are of them, and could name no private struct.
 #[derive(Clone, Copy)]
 pub struct Candidate {
     pub num: f32,

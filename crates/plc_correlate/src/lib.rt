@@ -18,7 +18,7 @@ fn add_products(v: f32, y: &[f32], sums: &mut [f32])
         ≡ tab (λ (i : ℕ). add binary32 (get_or sums.old i nan) (mul binary32 v (get_or y.now i nan))) (length sums.old) }
 {
     // By place: a zip with `iter_mut` tells a proof the items, not the list that they leave. (Why it is not one function with the
-    // loops of plc_fir and plc: see `add_taps` there.)
+    // loops of plc_fir and plc: see `add_taps` in plc_fir.)
     for (i, s) in sums.iter_mut().enumerate() {
         *s += v * y[i];
     }
@@ -30,7 +30,7 @@ fn cross_sums(x: &[f32], y: &[f32], sums: &mut [f32])
     ensures { sums.new ≡ tab (λ (i : ℕ). cross_sum x.now y.now i (length x.now)) (length sums.old) }
 {
     sums.fill(0.0);
-    // By place: `windows` of no values would panic, and no sums at all are taken too.
+    // By place: `windows` of no values would panic, and a call for no sums is taken too.
     for (j, v) in x.iter().enumerate() {
         add_products(*v, &y[j..], sums);
     }

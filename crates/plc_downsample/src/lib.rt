@@ -5,7 +5,8 @@
 ghost use Rattle.std.specs.Prelude.{◌≡◌, ℕ, ◌<◌, length, get_or, MatchOption};
 ghost use Rattle.std.specs.Float.{nan};
 ghost use Rattle.reply.specs.Reply.{replied, reply_if};
-ghost use Rattle.plc_downsample.specs.Downsample.{smoothed_at, downsample_takes, pitch_downsample, downsample_pair_takes, pitch_downsample_pair};
+ghost use Rattle.plc_downsample.specs.Downsample.{smoothed_at, downsample_takes, pitch_downsample};
+ghost use Rattle.plc_downsample.specs.Downsample.{downsample_pair_takes, pitch_downsample_pair};
 
 use history::{HALF, SAMPLES};
 use plc_whiten::whiten;
@@ -41,14 +42,14 @@ pub fn pitch_downsample(x: &[f32], second: Option<&[f32]>, x_lp: &mut [f32]) -> 
         (λ y. replied result x_lp.new
         ≡ reply_if (downsample_pair_takes (length x.now) (length y.now) (length x_lp.old)) (pitch_downsample_pair x.now y.now) x_lp.old) }
 {
-    let x = <&[f32; SAMPLES]>::try_from(x).map_err(|_| Refused)?;
+    let x = <&[f32; SAMPLES]>::try_from(x)?;
     if x_lp.len() != HALF {
         return Err(Refused);
     }
     match second {
         None => fill_by(x_lp, |i| smooth_at(x, i)),
         Some(y) => {
-            let y = <&[f32; SAMPLES]>::try_from(y).map_err(|_| Refused)?;
+            let y = <&[f32; SAMPLES]>::try_from(y)?;
             fill_by(x_lp, |i| smooth_at(x, i) + smooth_at(y, i));
         }
     }

@@ -16,7 +16,7 @@ const LONGEST: usize = history::HALF;
 
 // The samples of buf behind their memory.
 fn padded(buf: &[f32], mem: &[f32]) -> [f32; ORDER + LONGEST]
-    requires { (length buf.now ≤ 1024) × (length mem.now ≤ 24) }
+    requires { (length buf.now ≤ LONGEST) × (length mem.now ≤ ORDER) }
     ensures { Remembers result mem.now × Holds result buf.now (length buf.now) }
 {
     // The longest that is taken, cut to buf's: there is no heap.
@@ -31,7 +31,7 @@ fn padded(buf: &[f32], mem: &[f32]) -> [f32; ORDER + LONGEST]
 // The loop within is that of plc_correlate and of plc's autocorrelation too: one function for the three would be public,
 // and have to answer a list that is too short.
 fn add_taps(out: &mut [f32], num: &[f32], pad: &[f32])
-    requires { (length num.now ≤ 24) × (length pad.now ≡ length out.old + 24) }
+    requires { (length num.now ≤ ORDER) × (length pad.now ≡ length out.old + ORDER) }
     ensures { out.new
         ≡ tab (taps_row num.now pad.now out.old (length num.now)) (length out.old) }
 {
@@ -44,7 +44,8 @@ fn add_taps(out: &mut [f32], num: &[f32], pad: &[f32])
 
 // Filters from a place of buf on.
 fn filter_from(buf: &mut [f32], from: usize, num: &[f32], mem: &[f32])
-    requires { (length num.now ≡ length mem.now) × (length mem.now ≤ 24) × (length buf.old ≤ 1024) × (from < length buf.old) }
+    requires { (length num.now ≡ length mem.now) × (length mem.now ≤ ORDER) × (length buf.old ≤ LONGEST)
+        × (from < length buf.old) }
     ensures { buf.new ≡ celt_fir_from from num.now mem.now buf.old }
 {
     let pad = padded(buf, mem);

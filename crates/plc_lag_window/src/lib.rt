@@ -9,16 +9,18 @@ ghost use Rattle.plc_lag_window.specs.LagWindow.{lag_value, lag_window};
 use reply::Refused;
 
 // The lags that f32 counts exactly, with room to spare.
-const MOST_LAGS: usize = 65536;
+const MOST_LAGS: usize = 65_536;
+
 // The correlation at lag 0 rises by a noise floor 40 dB below it.
 const FLOOR_FACTOR: f32 = 1.0001;
+
 // The window falls with the square of so much for each lag.
 const LAG_STEP: f32 = 0.008;
 
 // The correlation a of lag i: raised by the noise floor at lag 0, else windowed.
 #[tactic(auto, unfolding(crate::specs::LagWindow::lag_value, crate::specs::LagWindow::lag_windowed, crate::specs::LagWindow::lag_factor))]
 fn lag_value(a: f32, i: usize) -> f32
-    requires { i ≤ 65536 }
+    requires { i ≤ MOST_LAGS }
     ensures { result ≡ lag_value a i }
 {
     if i == 0 {

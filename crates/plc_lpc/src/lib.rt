@@ -25,14 +25,14 @@ fn solve(lpc: &mut [f32], ac: &[f32])
     }
     for i in 0..p {
         let mut rr = 0.0f32;
-        // By place: lpc runs up while ac runs down, which a zip of two parts, one of them turned round, would say no plainer.
+        // By place: a loop over a zip lends lpc to it, and an invariant there does not see what is lent.
         for j in 0..i {
             rr += lpc[j] * ac[i - j];
         }
         rr += ac[i + 1];
         let r = -rr / error;
         lpc[i] = r;
-        for j in 0..((i + 1) >> 1) {
+        for j in 0..i.div_ceil(2) {
             let tmp1 = lpc[j];
             let tmp2 = lpc[i - 1 - j];
             lpc[j] = tmp1 + r * tmp2;

@@ -10,6 +10,10 @@ use reply::Refused;
 
 // The order of the filters: at most so many values are remembered.
 pub const ORDER: usize = 24;
+
+// Both channels' coefficients.
+pub const COEFFICIENTS: usize = 2 * ORDER;
+
 // The most recent of them, ahead of the first sample.
 pub const NEWEST: usize = ORDER - 1;
 
@@ -29,13 +33,14 @@ pub fn remember(pad: &mut [f32], mem: &[f32]) -> Result<(), Refused>
 }
 
 // x less each tap times its value of the 24 before, in order; the last of `past` is the most recent.
+// Always: it is put into the loops of two filters, and a call for each sample would cost a tenth.
 #[inline(always)]
 pub fn less_taps(den: &[f32; ORDER], past: &[f32; ORDER], x: f32) -> f32
     ensures { result ≡ taps_taken den.now past.now 0 x order }
 {
     let mut y = x;
     for (d, v) in den.iter().zip(past.iter().rev()) {
-        y = y - *d * *v;
+        y -= *d * *v;
     }
     y
 }

@@ -91,7 +91,7 @@ coarse-within : (y : List Float) → Within 155 (coarse_best y)
 unfolding coarse_best
 coarse-within y = best-within (coarse y) (every_second y 487) 332 155 (omega arith)
 
-pub coarse-least : {p : ℕ × ℕ} (y : List Float) → p ≡ ((coarse_best y).first.at, (coarse_best y).second.at) → (p.0 ≤ 154) × (p.1 ≤ 154)
+pub coarse-least : {p : ℕ × ℕ} (y : List Float) → p ≡ ((coarse_best y).first.at, (coarse_best y).second.at) → (p.0 < 155) × (p.1 < 155)
 coarse-least y e =
     let w : (coarse_best y).first.at < 155 = (coarse-within y).first in
     let v : (coarse_best y).second.at < 155 = (coarse-within y).second in

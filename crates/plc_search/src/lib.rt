@@ -6,31 +6,32 @@ ghost use Rattle.std.specs.Prelude.{◌≡◌, ◌+◌, ◌*◌, ◌-◌, ◌≤
 ghost use Rattle.loops.specs.Front.{tab};
 ghost use Rattle.plc_search.specs.Search.{every_second, fine_at, coarse_best, interpolated, refined, pitch_search};
 ghost use Rattle.plc_search.specs.Rows.{near_row, near_at};
+ghost use Rattle.plc_search.specs.declared.TheConstants.{PLACES4};
 
 use history::{HALF, LAG_LEAST, LAG_MOST};
 use plc_best::find_best_pitch;
 use plc_correlate::correlate;
 use std::array;
 
-// At half rate: where the newest samples start, the longest lag behind the first place.
+// At half rate: where the newest samples start, the longest lag after the first place.
 const LATER: usize = LAG_MOST / 2;
 
-// How many of these are compared.
+// At half rate: how many of the newest samples are compared.
 const COMPARED: usize = HALF - LATER;
 
-// At half rate: how many places they are compared with, one for each second lag.
+// At half rate: how many places the newest samples are compared with, one for each second lag.
 const PLACES: usize = (LAG_MOST - LAG_LEAST) / 2 + 1;
 
 // The last place: like the first it has one neighbour, and stays.
 const LAST: usize = PLACES - 1;
 
-// At quarter rate: how many samples are compared.
+// At quarter rate: how many of the newest samples are compared.
 const COMPARED4: usize = COMPARED / 2;
 
-// At quarter rate: how many places they are compared with.
+// At quarter rate: how many places the newest samples are compared with.
 const PLACES4: usize = PLACES / 2;
 
-// How many samples these places reach.
+// At quarter rate: how many samples are read, from the first place on.
 const SAMPLES4: usize = COMPARED4 + PLACES4;
 
 // A neighbour is close where it stands above the other by more than this part of what the place itself does.
@@ -48,7 +49,7 @@ fn every_second<const N: usize>(x: &[f32]) -> [f32; N]
 #[derive(Clone, Copy)]
 struct Coarse {
     at: usize,
-    ghost below: { at ≤ 154 },
+    ghost below: { at < PLACES4 },
 }
 
 impl Coarse {
@@ -81,7 +82,7 @@ impl Near {
     // What stands there for place i, where i is near.
     #[tactic(auto, unfolding(crate::specs::Rows::near_at, crate::specs::Search::near))]
     fn at(&self, i: usize) -> Option<f32>
-        requires { i < 310 }
+        requires { i < PLACES }
         ensures { result ≡ near_at self.now.row self.now.place.at i }
     {
         let b = self.place.at;
@@ -91,7 +92,7 @@ impl Near {
 
 // The finer correlations around twice the one and twice the other; 0 elsewhere.
 fn fine_row(y: &[f32; HALF], first: Coarse, second: Coarse) -> [f32; PLACES]
-    ensures { result ≡ tab (fine_at y.now first.at second.at) 310 }
+    ensures { result ≡ tab (fine_at y.now first.at second.at) PLACES }
 {
     let near0 = Near::around(y, first);
     let near1 = Near::around(y, second);
@@ -104,6 +105,7 @@ fn coarse_best(y: &[f32; HALF]) -> (Coarse, Coarse)
 {
     let x4: [f32; COMPARED4] = every_second(&y[LATER..]);
     let y4: [f32; SAMPLES4] = every_second(y);
+    // One sum more than is read: a multiple of 4 of them is made faster.
     let mut xcorr = [0.0f32; PLACES4 + 1];
     correlate(&x4, &y4, &mut xcorr).unwrap();
     let (first, second) = find_best_pitch(&xcorr[..PLACES4], &y4, COMPARED4).unwrap();
@@ -113,7 +115,7 @@ fn coarse_best(y: &[f32; HALF]) -> (Coarse, Coarse)
 // Twice p, less 1 where the correlation after it comes close to its own, plus 1 where the one before it does.
 #[tactic(auto, unfolding(crate::specs::Search::interpolated))]
 fn interpolate(p: usize, a: f32, b: f32, c: f32) -> usize
-    requires { (0 < p) × (p < 309) }
+    requires { (0 < p) × (p < LAST) }
     ensures { result ≡ interpolated p a b c }
 {
     if c - a > CLOSE * (b - a) {
@@ -128,7 +130,7 @@ fn interpolate(p: usize, a: f32, b: f32, c: f32) -> usize
 // The place at full rate.
 #[tactic(auto, unfolding(crate::specs::Search::refined))]
 fn refine(xcorr: &[f32; PLACES], p: usize) -> usize
-    requires { p < 310 }
+    requires { p < PLACES }
     ensures { result ≡ refined xcorr.now p }
 {
     if 0 < p && p < LAST {

@@ -47,7 +47,7 @@ fn whitening(lp: &[f32; HALF]) -> [f32; WHITENING]
 pub fn whiten(x_lp: &mut [f32]) -> Result<(), Refused>
     ensures { replied result x_lp.new ≡ reply_if (eqb (length x_lp.old) 1024) (whiten_lp x_lp.old) x_lp.old }
 {
-    let x = <&[f32; HALF]>::try_from(&x_lp[..]).map_err(|_| Refused)?;
+    let x = <&[f32; HALF]>::try_from(&x_lp[..])?;
     let num = whitening(x);
     celt_fir_inplace(x_lp, &num, &[0.0; WHITENING])?;
     celt_fir_inplace(x_lp, &[TILT], &[0.0])

@@ -2,6 +2,7 @@
 
 #![tactic(auto)]
 
+use std::array::TryFromSliceError;
 use std::error::Error;
 use std::fmt;
 
@@ -16,3 +17,10 @@ impl fmt::Display for Refused {
 }
 
 impl Error for Refused {}
+
+// A slice that is no array of the length asked for.
+impl From<TryFromSliceError> for Refused {
+    fn from(_: TryFromSliceError) -> Refused {
+        Refused
+    }
+}

@@ -10,7 +10,7 @@ ghost use Rattle.state.specs.Answer.{kind_of, report_of, answer_words};
 ghost use Rattle.state.specs.State.{core, noisy};
 
 use custom_mode::standard::ENERGIES;
-use plc_pad::ORDER;
+use plc_pad::COEFFICIENTS;
 use post_filter::Filter;
 use settings::{Refusal, Settings};
 
@@ -26,7 +26,7 @@ pub struct State {
     pub coarse: [f32; ENERGIES],
     pub background: [f32; ENERGIES],
     pub memories: [f32; 2],
-    pub predictor: [f32; 2 * ORDER],
+    pub predictor: [f32; COEFFICIENTS],
 }
 
 // The path of an accepted loss.

@@ -8,7 +8,7 @@ ghost use Rattle.state_words.specs.Words.{state_length, floats_by, word_in, stat
 
 use custom_mode::standard::ENERGIES;
 use float_bits::words::Word;
-use plc_pad::ORDER;
+use plc_pad::COEFFICIENTS;
 use post_filter::Filter;
 use settings::Settings;
 use state::State;
@@ -26,7 +26,7 @@ pub const MEMORIES: usize = BACKGROUND + ENERGIES;
 pub const PREDICTOR: usize = MEMORIES + 2;
 
 // The words of a state. The history follows them in a record.
-pub const WORDS: usize = PREDICTOR + 2 * ORDER;
+pub const WORDS: usize = PREDICTOR + COEFFICIENTS;
 
 // The floats of the words from the one numbered i on: an array at once, where the record's bytes, `words`, are read into what is lent.
 fn floats_in<const N: usize>(w: &[u32; WORDS], i: usize) -> [f32; N]

@@ -1,6 +1,5 @@
 use Rattle.std.proofs.Common.{◌≡◌, ap, ℕ, ◌-◌, ◌*◌, length, rules}
-use Rattle.std.specs.Array.{IsWholeChunk}
-use Rattle.reply.proofs.Convert.{converted}
+use Rattle.std.proofs.lemmas.Result.{MatchResult-at_ok}
 use Rattle.history.specs.History.{half}
 use Rattle.excitation.proofs.Steps.{whitened_is, repeat-is}
 use Rattle.excitation.proofs.repeat_cycle.Goals as goal
@@ -9,7 +8,7 @@ pub returns : goal.returns
 returns c =
     let a = c.args in
     let v = c.args.voice in
-    let newest = converted (λ z. IsWholeChunk v.newest.now z half) _ _ _ c.try_from.ensures.1 c.map_err.ensures.cases c.in_ok-exc.was in
+    let newest = MatchResult-at_ok _ _ _ c.in_ok-exc.was c.try_from.ensures.1 in
     let from : ℕ = half - 2 * c.decay_period-period.result in
     let lpc : length v.lpc.now ≡ 24 = search rules in
     repeat-is (length a.e.now) from v.newest.now v.lpc.now a.mem.now _ a.e.now _ v.lag _ _ _

@@ -1,6 +1,5 @@
 use Rattle.std.proofs.Common.{rules}
-use Rattle.std.specs.Array.{IsWholeChunk}
-use Rattle.reply.proofs.Convert.{converted}
+use Rattle.std.proofs.lemmas.Result.{MatchResult-at_ok}
 use Rattle.pitch_fit.proofs.Laws.{fit_is}
 use Rattle.pitch_fit.proofs.pitch_fit.Goals as goal
 
@@ -10,6 +9,6 @@ returns c =
     let w = c.window in
     let ac = c.celt_autocorr_windowed-ac in
     let b = c.lag_window in
-    let newest = converted (λ z. IsWholeChunk a.newest.now z.now 1024) _ _ _ c.try_from.ensures.1 c.map_err.ensures.cases c.in_ok-newest.was in
+    let newest = MatchResult-at_ok _ _ _ c.in_ok-newest.was c.try_from.ensures.1 in
     fit_is a.newest.now _ w.result ac.result b.new.ac a.lpc.now _ _ _ (search rules)
     newest.same w.ensures ac.ensures b.ensures c.celt_lpc.ensures newest.long

@@ -1,2 +1,0 @@
--- laws that several proofs cite
-pub mod Convert
