@@ -35,6 +35,7 @@ use Rattle.noise_cover.specs.Cover.{overlapped, covered_tail}
 use Rattle.noise_loss.specs.Loss.{channel_block, noise_blocks, noise_tails}
 use Rattle.deemphasis.specs.Deemphasis.{next_memory, memory_to, deemphasis}
 use Rattle.settings.specs.declared.Settings.{Settings}
+use Rattle.std.proofs.lemmas.List.Elements.{All-nil, All-push}
 use Rattle.fit_laws.specs.Values.{Single, AllSingle, all-at, all_append, all_take, all_drop, all-slice, all_set, all_map, all_replicate, all-tab, all-cond}
 
 -- ---- energies and memories
@@ -92,11 +93,11 @@ pub record TailsSingle (t : Tails) : Type 0 where
   pub second : TailSingle t.second
 
 iir_single : (den mem x : List Float) (n : ℕ) → AllSingle x → AllSingle (iir_to den mem x n)
-unfolding iir_to iir_at AllSingle
-iir_single den mem x zero a = tt
+unfolding iir_to iir_at
+iir_single den mem x zero a = All-nil Single
 iir_single den mem x (suc n) a =
-    all_append (iir_to den mem x n) _ (iir_single den mem x n a)
-    (fold-holds Single _ (get_or x n nan) (length den) (all-at x n a) (λ s j _ p. sub-fits binary32 _ _), tt)
+    All-push Single (iir_to den mem x n) _ (iir_single den mem x n a)
+    (fold-holds Single _ (get_or x n nan) (length den) (all-at x n a) (λ s j _ p. sub-fits binary32 _ _))
 
 guarded-single : (s1 : Float) (e : List Float) → AllSingle e → AllSingle (guarded s1 e)
 unfolding guarded guarded_at
