@@ -2,24 +2,12 @@
 ghost use Rattle.std.specs.Prelude.{◌+◌, ◌≤◌};
 
 use crate::streams::Wire;
-use history::{CHANNEL, HALF, LAG_LEAST, LAG_MOST, SAMPLES, SECOND_END, WHOLE};
+use history::{CHANNEL, HALF, SAMPLES, SECOND_END, WHOLE};
 use pitch_lag::find_lag;
 use plc_best::find_best_pitch;
 use plc_downsample::pitch_downsample;
-use plc_search::pitch_search;
+use plc_search::{COMPARED, COMPARED4, PLACES, PLACES4, SAMPLES4, pitch_search};
 use std::io;
-
-// The protocol's sizes of a sweep, from the limits of the lag. At half rate: places, and samples that are compared. At quarter rate
-// half of these. `plc_search` has the same as steps of its own, which are private.
-const PLACES: usize = (LAG_MOST - LAG_LEAST) / 2 + 1;
-
-const COMPARED: usize = HALF - LAG_MOST / 2;
-
-const PLACES4: usize = PLACES / 2;
-
-const COMPARED4: usize = COMPARED / 2;
-
-const REACHED4: usize = COMPARED4 + PLACES4;
 
 // The samples of each used channel, without its overlap. Here and below `two`: the operation's number says whether there
 // is a second channel, and two functions each would differ in nothing else.
@@ -61,7 +49,7 @@ pub(crate) fn answer(wire: &mut Wire, op: u32) -> io::Result<bool> {
     match op {
         301 => answer_downsampled(wire, false)?,
         302 => answer_downsampled(wire, true)?,
-        303 => answer_best::<PLACES4, REACHED4>(wire, COMPARED4)?,
+        303 => answer_best::<PLACES4, SAMPLES4>(wire, COMPARED4)?,
         304 => answer_best::<PLACES, HALF>(wire, COMPARED)?,
         305 => wire.answer(|y: [f32; HALF]| pitch_search(&y))?,
         306 => answer_lag(wire, false)?,

@@ -33,7 +33,8 @@ impl Span {
     }
 }
 
-// The bands of a span at a block factor. The most it is stands by number: a ghost field has no constant in its scope.
+// The bands of a span at a block factor. The most m is stands by number: in a ghost field
+// a constant wants an import of its own, which is no plainer.
 #[derive(Clone, Copy)]
 struct Bands {
     m: usize,

@@ -17,22 +17,22 @@ use std::array;
 const LATER: usize = LAG_MOST / 2;
 
 // At half rate: how many of the newest samples are compared.
-const COMPARED: usize = HALF - LATER;
+pub const COMPARED: usize = HALF - LATER;
 
 // At half rate: how many places the newest samples are compared with, one for each second lag.
-const PLACES: usize = (LAG_MOST - LAG_LEAST) / 2 + 1;
+pub const PLACES: usize = (LAG_MOST - LAG_LEAST) / 2 + 1;
 
 // The last place: like the first it has one neighbour, and stays.
 const LAST: usize = PLACES - 1;
 
 // At quarter rate: how many of the newest samples are compared.
-const COMPARED4: usize = COMPARED / 2;
+pub const COMPARED4: usize = COMPARED / 2;
 
 // At quarter rate: how many places the newest samples are compared with.
-const PLACES4: usize = PLACES / 2;
+pub const PLACES4: usize = PLACES / 2;
 
 // At quarter rate: how many samples are read, from the first place on.
-const SAMPLES4: usize = COMPARED4 + PLACES4;
+pub const SAMPLES4: usize = COMPARED4 + PLACES4;
 
 // A neighbour is close where it stands above the other by more than this part of what the place itself does.
 const CLOSE: f32 = 0.7;
