@@ -14,6 +14,7 @@ use std::array::from_fn;
 
 // Four pairs of sums, and how many products were made for them: counted as they are made, since document 01 asks for the count in
 // the result.
+// Four and eight by number, here and below: the laws on these four pairs have the numbers too.
 #[derive(Clone, Copy)]
 pub(crate) struct Sums {
     pub(crate) sums: [f64; 8],
