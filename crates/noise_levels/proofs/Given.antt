@@ -1,44 +1,21 @@
 -- What the transform is given in each bin: the shape's, times its band's gain. Assumes nothing.
 use mathlib.Core.Path.{◌≡◌, refl, sym, ap, ◌∙◌, subst}
 use mathlib.Core.Logic.{◌⊎◌, inl, inr}
-use mathlib.Core.List.{List, ◌++◌, map}
+use mathlib.Core.List.{List, map}
 use Prim.Native.Nat.{ℕ, zero, suc, ◌+◌, ◌-◌, ◌*◌, ◌≤◌, ◌<◌}
 use native.Mathlib.Nat.{mul-le-mul_left}
 use native.Mathlib.Omega.{arith}
 use lib.ListN.{length, get_or, take, drop, replicate, get_or-append, get_or-map, length-drop, length-map, length-replicate}
-use lib.Seq.{length-take-le, get_or-append-add, get_or-take, get_or-drop}
+use lib.Seq.{length-take-le, get_or-take, get_or-drop}
 use lib.Ieee.{Float, nan, mul}
 use Rattle.std.proofs.lemmas.Bool.{cases_lt}
 use Rattle.loops.specs.Fold.{fold_to, fold_range, fold-holds}
-use Rattle.loops.specs.Part.{put}
+use Rattle.loops.specs.PartRead.{put_before, put_inside, put_behind}
 use Rattle.buffers.specs.Buffers.{zero32, times}
 use Rattle.custom_mode.specs.Mode.{short_block, bands, last_edge}
 use Rattle.noise_shape.specs.Shape.{lo, width, noise_shape, edge-up, band_in, length-noise_shape}
 use Rattle.noise_levels.proofs.Bands.{band_ends}
 use Rattle.noise_spectrum.specs.Spectrum.{gain_of_band, gain_turn, bound, cleared, spectrum_over, spectrum, length-gain_turn, bound-in}
-
--- ---- what stands at j where the n from a on are replaced by y
-module _ (a n : ℕ) (y h : List Float) (sized : length y ≡ n) (in-h : a + n ≤ length h) (j : ℕ) where
-  before : j < a → get_or (put a n y h) j nan ≡ get_or h j nan
-  before l = get_or-append (take a h) (y ++ drop n (drop a h)) nan j (omega (arith, length-take-le a h (omega arith))) ∙ get_or-take a h j nan l
-
-  -- j is i places on from a
-  from-a : (i : ℕ) → a + i ≡ j → get_or (put a n y h) j nan ≡ get_or (y ++ drop n (drop a h)) i nan
-  from-a i e =
-      let k : j ≡ length (take a h) + i = omega (arith, length-take-le a h (omega arith)) in
-      ap (λ (z : ℕ). get_or (put a n y h) z nan) k ∙ get_or-append-add (take a h) (y ++ drop n (drop a h)) i nan
-
-  inside : (i : ℕ) → a + i ≡ j → i < n → get_or (put a n y h) j nan ≡ get_or y i nan
-  inside i e l = from-a i e ∙ get_or-append y (drop n (drop a h)) nan i (omega arith)
-
-  behind : a + n ≤ j → get_or (put a n y h) j nan ≡ get_or h j nan
-  behind l =
-      let i = j - (a + n) in
-      let k : n + i ≡ length y + i = omega arith in
-      let e : a + (n + i) ≡ j = omega arith in
-      from-a (n + i) e
-      ∙ ap (λ (z : ℕ). get_or (y ++ drop n (drop a h)) z nan) k ∙ get_or-append-add y (drop n (drop a h)) i nan
-      ∙ get_or-drop n (drop a h) i nan ∙ get_or-drop a h (n + i) nan ∙ ap (λ (z : ℕ). get_or h z nan) e
 
 -- ---- the gains
 module _ (m : ℕ) (energies : List Float) where
@@ -61,7 +38,7 @@ module _ (m : ℕ) (energies : List Float) where
         let p = j - lo m i in
         let e : lo m i + p ≡ j = omega arith in
         let w : p < width m i = omega (arith, band_ends m i l) in
-        inside (lo m i) (width m i) (gained b i) b gained-sized room j p e w
+        put_inside (lo m i) (width m i) (gained b i) b (omega (arith, room)) nan p j e (omega (arith, gained-sized, w))
         ∙ get_or-map (times (gain_of_band energies i)) (take (width m i) (drop (lo m i) b)) p nan
         ∙ ap (times (gain_of_band energies i))
         (get_or-take (width m i) (drop (lo m i) b) p nan w ∙ get_or-drop (lo m i) b p nan
@@ -69,8 +46,9 @@ module _ (m : ℕ) (energies : List Float) where
 
     turn-other : (j : ℕ) → (j < lo m i) ⊎ (lo m (i + 1) ≤ j) → get_or (gain_turn m energies b i) j nan ≡ get_or b j nan
     unfolding gain_turn
-    turn-other j (inl h) = before (lo m i) (width m i) (gained b i) b gained-sized room j h
-    turn-other j (inr h) = behind (lo m i) (width m i) (gained b i) b gained-sized room j (omega (arith, band_ends m i l))
+    turn-other j (inl h) = put_before (lo m i) (width m i) (gained b i) b (omega (arith, room)) nan j h
+    turn-other j (inr h) =
+        put_behind (lo m i) (width m i) (gained b i) b (omega (arith, room)) nan j gained-sized (omega (arith, band_ends m i l))
 
   -- the turns from the start band on
   module _ (start : ℕ) (b : List Float) (big : m * last_edge ≤ length b) where

@@ -11,7 +11,7 @@ use Rattle.pitch_lag.specs.Lag.{lag_of}
 use Rattle.pitch_predictor.specs.Predictor.{fitted_to}
 use Rattle.ref_decode.proofs.Paths.{ok_is, ok_value, pitch_taken, pitch_path}
 use Rattle.ref_decode.proofs.pitch.pitch_made.Goals as goal
-use Rattle.ref_decode.proofs.pitch.pitch_made.Goals.{then-first, else-first}
+use Rattle.ref_decode.proofs.pitch.pitch_made.Goals.{Joined-first, then-first, else-first}
 
 pub unwrap-lag-requires : goal.unwrap-lag-requires
 unwrap-lag-requires c =
@@ -23,33 +23,31 @@ unwrap-predictor-requires c =
     let l = (ok-start c.args.s c.args.history.now c.requires.0).history in
     ap is_ok (ok_is _ _ c.fit_predictor.ensures (eq-eqb _ whole l))
 
--- the lag is searched and the coefficients are fitted at the first loss alone
-pub unwrap-requires : goal.unwrap-requires
-unwrap-requires c =
+-- the lag is searched at the first loss alone
+lag-is : (c : Joined-first)
+    → c.if-first.lag.0 ≡ cond (eqb c.args.s.loss_count 0) (lag_of (stereo c.args.s.settings) c.args.history.now) c.args.s.lag
+lag-is c =
     let s = c.args.s in
     let h = c.args.history.now in
     let l = eq-eqb (length h) whole (ok-start s h c.requires.0).history in
-    let lag : c.if-first.lag.0 ≡ cond (eqb s.loss_count 0) (lag_of (stereo s.settings) h) s.lag =
     elim c.if-first.branch [
       | then-first w ↦
           rw (eq-eqb s.loss_count 0 w.if-first.true)
           (ap (λ (p : ℕ × List Float). p.0) w.lag-is ∙ ok_value _ _ w.find_lag.ensures l w.unwrap-lag.ensures ∙ ap (λ b. lag_of b h) w.is_stereo-two.ensures)
       | else-first w ↦ rw (ne_eqb s.loss_count 0 w.if-first.false) (ap (λ (p : ℕ × List Float). p.0) w.lag-is)
-    ] in
-    reply-taken _ _ _ c.pitch_loss.ensures ∙ pitch_taken s h c.requires.0 c.requires.1 _ lag
+    ]
+
+pub unwrap-requires : goal.unwrap-requires
+unwrap-requires c =
+    let s = c.args.s in
+    let h = c.args.history.now in
+    reply-taken _ _ _ c.pitch_loss.ensures ∙ pitch_taken s h c.requires.0 c.requires.1 _ (lag-is (goal.at.unwrap-requires c).Joined-first)
 
 pub returns : goal.returns
 returns c =
     let s = c.args.s in
     let h = c.args.history.now in
     let l = eq-eqb (length h) whole (ok-start s h c.requires.0).history in
-    let lag : c.if-first.lag.0 ≡ cond (eqb s.loss_count 0) (lag_of (stereo s.settings) h) s.lag =
-    elim c.if-first.branch [
-      | then-first w ↦
-          rw (eq-eqb s.loss_count 0 w.if-first.true)
-          (ap (λ (p : ℕ × List Float). p.0) w.lag-is ∙ ok_value _ _ w.find_lag.ensures l w.unwrap-lag.ensures ∙ ap (λ b. lag_of b h) w.is_stereo-two.ensures)
-      | else-first w ↦ rw (ne_eqb s.loss_count 0 w.if-first.false) (ap (λ (p : ℕ × List Float). p.0) w.lag-is)
-    ] in
     let predictor : c.if-first.lag.1 ≡ cond (eqb s.loss_count 0) (fitted_to (stereo s.settings) s.predictor (tails h)) s.predictor =
     elim c.if-first.branch [
       | then-first w ↦
@@ -58,4 +56,4 @@ returns c =
           ∙ ap (λ b. fitted_to b s.predictor (tails h)) w.is_stereo-two.ensures)
       | else-first w ↦ rw (ne_eqb s.loss_count 0 w.if-first.false) (ap (λ (p : ℕ × List Float). p.1) w.lag-is)
     ] in
-    pitch_path s h c.requires.0 c.requires.1 _ lag _ _ _ predictor c.pitch_loss.ensures
+    pitch_path s h c.requires.0 c.requires.1 _ (lag-is (goal.at.returns c).Joined-first) _ _ _ predictor c.pitch_loss.ensures
