@@ -61,7 +61,12 @@ fn sums_within<const P: usize, const I: usize>(spectrum: &[f32], sums: &mut [f64
     let n = spectrum.len();
     let mut pairs = [0.0f64; P];
     let mut inputs = [0.0f64; I];
-    sums_by_tables(&mut pairs[..PLACES * n], &mut inputs[..2 * n], spectrum, sums)
+    sums_by_tables(
+        &mut pairs[..PLACES * n],
+        &mut inputs[..2 * n],
+        spectrum,
+        sums,
+    )
 }
 
 // Half of the sums of n inputs, n one of the four frame sizes: of outputs t and n + t side by side, for t below n / 2. Answers

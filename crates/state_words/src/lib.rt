@@ -40,7 +40,20 @@ fn floats_in<const N: usize>(w: &[u32; WORDS], i: usize) -> [f32; N]
 pub fn from_words(w: &[u32; WORDS]) -> State
     ensures { result ≡ state_in w.now }
 {
-    let [lm, channels, start, end, downsample, loss_count, seed, lag, period, gain, tapset, ..] = *w;
+    let [
+        lm,
+        channels,
+        start,
+        end,
+        downsample,
+        loss_count,
+        seed,
+        lag,
+        period,
+        gain,
+        tapset,
+        ..
+    ] = *w;
     State {
         settings: Settings {
             lm,
