@@ -31,6 +31,7 @@ fn conceal_record(
 // A record whose loss was accepted is written anew; a refused one stays as it was read. Not one function with `direct`'s: a record
 // is bytes, with the history in them, and the head is what C is handed. By `as`: std has no `From` of a word to usize.
 // By length: once `try_from` has made an array of the slice, a proof no longer has what the slice itself becomes.
+// Room for a whole history and for the longest answer: there is no heap.
 fn answer(rec: &mut [u8], head: &mut [u8]) -> Result<usize, Refused>
     requires { (length rec.old ≡ record_length) × (head_most ≤ length head.old) }
     ensures { replied result (with_record (headed (value_or 0 result) head.new) rec.new)

@@ -16,7 +16,8 @@ const LEAST: u64 = 150;
 // float in others. An i64 becomes an f64 by a cast, since std has no `From` for it.
 const BIAS: u64 = LEAST * 256;
 
-// One in the exponent's field of an f64, and what stands there for 2 ^ 0.
+// One in the exponent's field of an f64, and what stands there for 2 ^ 0. float_narrow has the shift for itself too: one for both
+// would be public for that.
 const EXPONENT: u64 = 1 << 52;
 
 const ZEROTH: u64 = 1_023;

@@ -41,7 +41,7 @@ fn cos_at(c: &[f64; QUARTER + 1], j: usize) -> f64
     }
 }
 
-// The cosines of a circle of 4 n steps, each at half a step more than a whole one. Of a size that no frame has, none: it is
+// The cosines of a circle of 4 n steps, each at half a step more than a whole one. Of a size that no frame has, zeros: it is
 // total, and its caller has asked for the size. The longest circle's room, of which 4 n are used: there is no heap.
 #[tactic(auto, using(crate::proofs::Circles::known, crate::proofs::Circles::place_known))]
 pub fn circle(n: usize) -> [f64; STEPS]

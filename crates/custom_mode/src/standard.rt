@@ -1,4 +1,5 @@
-// The standard mode's numbers and tables. An accessor takes every index, and says what it answers past its table's end.
+// The standard mode's numbers and tables. An accessor takes every index, as no public function asks anything, and says what it
+// answers past its table's end.
 ghost use Rattle.std.specs.Prelude.{◌≡◌};
 ghost use Rattle.custom_mode.specs.Mode.{edge, mean, preemph};
 
@@ -21,7 +22,7 @@ pub const BANDS: usize = 21;
 // The energies of a channel: more than it has bands.
 pub const MAX_BANDS: usize = 25;
 
-// The channels of a stream at most. Elsewhere a plain 2 is one and the other.
+// The channels of a stream at most. Elsewhere 2 stands by number: there it is the one channel and the other.
 pub const CHANNELS: usize = 2;
 
 // The energies of both channels, in one list: band i of channel c at MAX_BANDS * c + i.

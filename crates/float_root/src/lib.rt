@@ -8,7 +8,8 @@ ghost use Rattle.float_root.specs.Root.{sqrt_of};
 ghost use Rattle.float_bits.specs.Steps.{significand};
 ghost use Rattle.float_root.specs.Steps.{ScaledTo, RootBits};
 
-// An f32's bits are its exponent's field times this, and the digits after the leading one.
+// An f32's bits are its exponent's field times this, and the digits after the leading one. float_narrow has the same for itself:
+// one for both would be public for one shift.
 const LEADING: u64 = 1 << 23;
 
 // The largest whole number whose square is at most m. The loop halves an interval: it counts no index.

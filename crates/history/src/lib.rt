@@ -14,7 +14,7 @@ pub use custom_mode::standard::OVERLAP;
 // What a loss may change of a channel: its newest 1,024 samples and its overlap.
 pub const TAIL: usize = HALF + OVERLAP;
 
-// The mode's, under the name that the steps of a loss know.
+// The mode's, under the name that the steps of a loss know, and an edit of take_in.
 pub const LONGEST_FRAME: usize = custom_mode::standard::FRAME_MOST;
 
 // What is extrapolated beyond a frame: twice the overlap.

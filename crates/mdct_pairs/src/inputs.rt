@@ -14,6 +14,7 @@ fn input_at(x: &[f32], i: usize) -> f64
 }
 
 // Each input twice, the second of every other pair with its sign turned. A loop of its own, as `outputs` in mdct_mirrored says.
+// The longest frame by number, here and in `lanes`: the laws on these lists have it so.
 pub(crate) fn fill_inputs(x: &[f32], inputs: &mut [f64])
     requires { (length x.now ≤ 960) × (length inputs.old ≡ 2 * length x.now) }
     ensures { inputs.new ≡ inputs_of x.now }

@@ -7,7 +7,7 @@ ghost use Rattle.noise_block.specs.Block.{windowed};
 use celt_window::{low_overlap_window, window};
 use custom_mode::standard::OVERLAP;
 
-// The n + 120 outputs in the middle of the 2 n, doubled, times the window.
+// The n + 120 outputs in the middle of the 2 n, doubled, times the window. 1,920 by number, as the laws of the window have it.
 pub(crate) fn window_outputs(block: &mut [f32], u: &[f32])
     requires { (2 * overlap ≤ length u.now) × (length u.now ≤ 1920) × (length block.old ≡ length u.now / 2 + overlap) }
     ensures { block.new ≡ tab (windowed (length u.now / 2) u.now) (length u.now / 2 + overlap) }

@@ -19,7 +19,8 @@ mod block;
 // The longest block: the longest frame and its overlap.
 pub const BLOCK_MOST: usize = FRAME_MOST + OVERLAP;
 
-// Not `block_factor` of `sizes`, which takes 32 bits: a cast, and the crates of the settings for one shift.
+// Not `block_factor` of `sizes`, which takes 32 bits: a cast, and the crates of the settings for one shift. 3 and 8 by number, as
+// the definition of what a block takes has them.
 fn factor(lm: usize) -> usize
     requires { lm ≤ 3 }
     ensures { (result ≡ 2 ^ lm) × (1 ≤ result) × (result ≤ 8) }

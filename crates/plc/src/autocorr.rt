@@ -31,7 +31,8 @@ fn first_terms(x: &[f32], row: &mut [f32])
 }
 
 // The other terms: at each sample one of every lag, so that the sums run side by side, each in its own order.
-// Within by place: a zip with `iter_mut` tells a proof the items, not the list that they leave.
+// Within by place: a zip with `iter_mut` tells a proof the items, not the list that they leave; and a loop of its own, as `add_taps`
+// in plc_fir says.
 fn other_terms(x: &[f32], row: &mut [f32])
     requires { (0 < length row.old) × (length row.old ≤ length x.now) × (row.old ≡ lag_row x.now (length row.old) (length row.old - 1)) }
     ensures { row.new ≡ lag_row x.now (length row.old) (length x.now) }

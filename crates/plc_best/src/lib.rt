@@ -95,6 +95,7 @@ fn two_best(xcorr: &[f32], y: &[f32], len: usize) -> Best
 pub fn find_best_pitch(xcorr: &[f32], y: &[f32], len: usize) -> Option<(usize, usize)>
     ensures { result ≡ best_pitches xcorr.now y.now len (length xcorr.now) }
 {
+    // y.len() < xcorr.len() + len, asked without an overflow
     if y.len() < xcorr.len() || y.len() - xcorr.len() < len {
         return None;
     }

@@ -12,7 +12,7 @@ use history::{HALF, SAMPLES};
 use plc_whiten::whiten;
 use reply::Refused;
 
-// Sample i at half rate: half of sample 2 i and a quarter of each neighbour.
+// Sample i at half rate: half of sample 2 i and a quarter of each neighbour. 1,024 by number, as its laws have it.
 #[tactic(auto, unfolding(crate::specs::Downsample::smoothed_at))]
 fn smooth_at(x: &[f32; SAMPLES], i: usize) -> f32
     requires { i < 1024 }
@@ -25,6 +25,7 @@ fn smooth_at(x: &[f32; SAMPLES], i: usize) -> f32
 }
 
 // Each sample at half rate, as `at` gives it. By place: the library's `fill_with` hands its closure no number.
+// A loop of its own, as `outputs` in mdct_mirrored says.
 fn fill_by<F: Fn(usize) -> f32>(x_lp: &mut [f32], at: F)
     requires { (i : ℕ) → i < length x_lp.old → F.pre at i }
     ensures { (i : ℕ) → i < length x_lp.old → F.post at i (get_or x_lp.new i nan) }

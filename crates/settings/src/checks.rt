@@ -21,8 +21,8 @@ pub fn unless(passes: bool, e: Refusal) -> Result<(), Refusal>
     passes.then_some(()).ok_or(e)
 }
 
-// Whether x lies from lo to hi: one library call, under the name that the definitions give it. What it promised stays, and
-// is all that the checks' proofs cite.
+// Whether x lies from lo to hi: one library call, beside the definitions' `within`. What it promised stays, and is all that the
+// checks' proofs cite.
 pub fn is_within(lo: u32, hi: u32, x: u32) -> bool
     ensures { result ≡ within lo hi x }
 {

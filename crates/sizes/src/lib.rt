@@ -1,4 +1,5 @@
-// What follows from the settings of a stream: the block factor, the frame, the samples of an answer.
+// What follows from the settings of a stream: the block factor, the frame, the samples of an answer. Functions, and no methods of
+// `Settings`, for the reason that the checks in settings give.
 
 #![tactic(auto)]
 

@@ -1,4 +1,5 @@
 // The states and buffers that are refused: each check passes, or refuses for its own reason.
+// Functions, and no methods of `State`: under these names the definitions have them, and promises, edits and proofs cite them.
 ghost use Rattle.std.specs.Prelude.{◌≡◌};
 ghost use Rattle.settings.specs.Number.{number_in};
 ghost use Rattle.state.specs.Refusal.{check_lag, refuses_state, refusal};
