@@ -15,6 +15,7 @@ fn answer_band(wire: &mut Wire) -> io::Result<()> {
     wire.write(x)
 }
 
+#[inline(never)]
 pub(crate) fn answer(wire: &mut Wire, op: u32) -> io::Result<bool> {
     match op {
         401 => wire.answer(celt_lcg_rand)?,

@@ -47,6 +47,7 @@ fn answer_iir(wire: &mut Wire) -> io::Result<()> {
     wire.write(x)
 }
 
+#[inline(never)]
 pub(crate) fn answer(wire: &mut Wire, op: u32) -> io::Result<bool> {
     match op {
         201 => wire.answer(|x: [f32; HALF]| celt_autocorr(&x))?,

@@ -7,6 +7,7 @@ use float_narrow::f64_to_f32;
 use float_root::sqrt_f32;
 use std::io;
 
+#[inline(never)]
 pub(crate) fn answer(wire: &mut Wire, op: u32) -> io::Result<bool> {
     match op {
         101 => wire.answer_two(min_f32)?,
@@ -17,7 +18,12 @@ pub(crate) fn answer(wire: &mut Wire, op: u32) -> io::Result<bool> {
         106 => wire.answer(|x: f32| x)?,
         107 => wire.answer(noise_value)?,
         108 => wire.answer_two(wrapping_mul_u32)?,
-        _ => return Ok(false),
+        // two words are taken of an op that is not known too: what is left of the input is what it always was
+        _ => {
+            wire.read::<u32>()?;
+            wire.read::<u32>()?;
+            return Ok(false);
+        }
     }
     Ok(true)
 }

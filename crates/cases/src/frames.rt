@@ -26,6 +26,7 @@ fn answer_frame(wire: &mut Wire) -> io::Result<()> {
     wire.write(after.unwrap_or(memories))
 }
 
+#[inline(never)]
 pub(crate) fn answer(wire: &mut Wire, op: u32) -> io::Result<bool> {
     match op {
         701 => answer_frame(wire)?,

@@ -55,6 +55,7 @@ fn answer_silent(wire: &mut Wire) -> io::Result<()> {
     wire.write_all(&[s.loss_count, s.seed, s.lag])
 }
 
+#[inline(never)]
 pub(crate) fn answer(wire: &mut Wire, op: u32) -> io::Result<bool> {
     match op {
         1001 => answer_call(wire)?,

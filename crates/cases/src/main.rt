@@ -22,7 +22,8 @@ use streams::Wire;
 
 // One case; false where there is no more to answer. Each module has a hundred of the protocol's numbers, and its own `answer`
 // says whether it knows the one: a match on numbers, since numbers are what comes, and a bool, since known or not is all that is
-// asked. Of one shape, and apart: one match of all numbers would be longer than a function may be.
+// asked. Of one shape, and apart: one match of all numbers would be longer than a function may be. None is inlined, or this
+// program's stack would hold the buffers of all.
 fn answer(wire: &mut Wire) -> io::Result<bool> {
     let Some(op) = wire.next_word()? else {
         return Ok(false);

@@ -6,6 +6,7 @@ use custom_mode::standard::{band_edge, mean_energy};
 use powers::power_at;
 use std::io;
 
+#[inline(never)]
 pub(crate) fn answer(wire: &mut Wire, op: u32) -> io::Result<bool> {
     match op {
         501 => wire.answer_two(band_gain)?,
@@ -14,7 +15,11 @@ pub(crate) fn answer(wire: &mut Wire, op: u32) -> io::Result<bool> {
         503 => wire.answer(|i: u32| power_at(u64::from(i)))?,
         504 => wire.answer(mean_energy)?,
         505 => wire.answer(band_edge)?,
-        _ => return Ok(false),
+        // a word is taken of an op that is not known too, as in `floats` two are
+        _ => {
+            wire.read::<u32>()?;
+            return Ok(false);
+        }
     }
     Ok(true)
 }

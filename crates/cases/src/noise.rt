@@ -61,6 +61,7 @@ fn answer_energies(wire: &mut Wire) -> io::Result<()> {
     wire.write(lower_energies(coarse, channels, start, end, count))
 }
 
+#[inline(never)]
 pub(crate) fn answer(wire: &mut Wire, op: u32) -> io::Result<bool> {
     match op {
         901 => answer_block(wire)?,

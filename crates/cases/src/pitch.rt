@@ -55,6 +55,7 @@ fn answer_loss(wire: &mut Wire) -> io::Result<()> {
     wire.write_all(&pitch.predictor[..ORDER])
 }
 
+#[inline(never)]
 pub(crate) fn answer(wire: &mut Wire, op: u32) -> io::Result<bool> {
     match op {
         801 => answer_loss(wire)?,

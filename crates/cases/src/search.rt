@@ -45,6 +45,7 @@ fn answer_lag(wire: &mut Wire, two: bool) -> io::Result<()> {
     wire.write(find_lag(two, &h).unwrap())
 }
 
+#[inline(never)]
 pub(crate) fn answer(wire: &mut Wire, op: u32) -> io::Result<bool> {
     match op {
         301 => answer_downsampled(wire, false)?,

@@ -11,11 +11,14 @@ use mdct_mirrored::imdct_mirrored_f32;
 use sizes::frame_size;
 use std::io;
 
-// An entry of a table. False past its end: there is no answer then, and the program stops as at an op that it does not know.
-fn answer_entry<V: Value>(wire: &mut Wire, table: &[V]) -> io::Result<bool> {
+// An entry of a table, by its number. The table is made inside the closure: as an argument its room would be cleared for every op of
+// this hundred. False past its end: there is no answer then, and the program stops as at an op that it does not know.
+fn answer_entry<V: Value, F: Fn(usize) -> Option<V>>(wire: &mut Wire, entry: F) -> io::Result<bool>
+    requires { F.IsAlwaysCallable entry }
+{
     let at: usize = wire.read()?;
-    match table.get(at) {
-        Some(v) => wire.write(*v)?,
+    match entry(at) {
+        Some(v) => wire.write(v)?,
         None => return Ok(false),
     }
     Ok(true)
@@ -44,11 +47,12 @@ fn answer_mirrored<const BINS: usize, const SAMPLES: usize>(wire: &mut Wire) -> 
 }
 
 #[tactic(auto, unfolding(cosine_circle::specs::Circle::is_frame_size))]
+#[inline(never)]
 pub(crate) fn answer(wire: &mut Wire, op: u32) -> io::Result<bool> {
     match op {
-        601 => return answer_entry(wire, &window()),
+        601 => return answer_entry(wire, |at| window().get(at).copied()),
         602 => wire.answer_two(|lm, j| low_overlap_window(&window(), frame_size(lm), j))?,
-        603 => return answer_entry(wire, &cosines()),
+        603 => return answer_entry(wire, |at| cosines().get(at).copied()),
         // By numbers, as the protocol has these cases, one for each size that `is_frame_size` names; and twice as many samples.
         611 => answer_sum::<120, 240>(wire)?,
         612 => answer_sum::<240, 480>(wire)?,

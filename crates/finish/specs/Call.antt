@@ -2,7 +2,6 @@
 use Rattle.std.specs.Prelude.{◌≡◌, List, [], ℕ, ◌+◌, ◌*◌, ◌/◌, Float}
 use Rattle.history.specs.History.{newest}
 use Rattle.settings.specs.Settings.{frame, stereo}
-use Rattle.state.specs.Answer.{kind_of}
 use Rattle.state.specs.declared.State.{State}
 use Rattle.deemphasis.specs.Deemphasis.{sound, deemphasis}
 use Rattle.finish.specs.Finish.{Outcome}
@@ -20,7 +19,7 @@ pub record Refused (n : ℕ) (s : State) (h : List Float) (o : Outcome) : Type 0
 -- what an accepted call answers and leaves, from what its path made and the history that it left
 pub record Concluded (s : State) (m : Made) (h : List Float) (o : Outcome) : Type 0 where
   pub number : o.report.number ≡ 0
-  pub kind : o.report.kind ≡ kind_of m.kind
+  pub kind : o.report.kind ≡ m.kind
   -- channels × N / downsample
   pub samples : o.report.samples ≡ s.settings.channels * (frame s.settings / s.settings.downsample)
   -- the PCM and the memories are de-emphasis of the newest N samples of each used channel, as the history then holds them

@@ -3,7 +3,7 @@ use Rattle.std.specs.Prelude.{List, [], ℕ, zero, suc, ◌+◌, length, Float, 
 use Rattle.settings.specs.Settings.{needed}
 use Rattle.settings.specs.declared.Refusal.{Refusal}
 use Rattle.state.specs.Refusal.{refusal}
-use Rattle.state.specs.Answer.{Report, kind_of, report_of}
+use Rattle.state.specs.Answer.{Report, report_of}
 use Rattle.state.specs.declared.State.{State}
 use Rattle.state.specs.declared.Answer.{Answer}
 use Rattle.deemphasis.specs.Deemphasis.{Sound}
@@ -21,7 +21,7 @@ pub record Outcome : Type 0 where
 -- an accepted loss, from what its path made, the history that it left, its sound and its number of samples
 abbrev pub finish_with : State → Made → List Float → Sound → ℕ → Outcome
 finish_with s m h y n = record {
-  report = record { number = 0; kind = kind_of m.kind; samples = n };
+  report = record { number = 0; kind = m.kind; samples = n };
   pcm = y.pcm;
   state = record {
     settings = s.settings;

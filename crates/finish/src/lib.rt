@@ -12,12 +12,12 @@ use plc_pad::COEFFICIENTS;
 use settings::Refusal;
 use sizes::needed_samples;
 use state::checks::first_refusal;
-use state::{Answer, Kind, State};
+use state::{Answer, State};
 
-// What a path made of a state.
+// What a path made of a state. Its kind is a number: the two paths have theirs from `Kind`, and the end of a call passes any on.
 #[derive(Clone, Copy)]
 pub struct Made {
-    pub kind: Kind,
+    pub kind: u32,
     pub seed: u32,
     pub lag: u32,
     pub coarse: [f32; ENERGIES],

@@ -5,7 +5,6 @@ use mathlib.Core.List.{List}
 use lib.Ieee.{Float}
 use Rattle.history.specs.History.{tails}
 use Rattle.settings.specs.Settings.{stereo}
-use Rattle.state.specs.Answer.{kind_of}
 use Rattle.state.specs.State.{core, noisy, searches}
 use Rattle.state.specs.declared.State.{State}
 use Rattle.state.proofs.Keep.{noise_searches}
@@ -15,11 +14,11 @@ use Rattle.loss.specs.Loss.{noise_made, pitch_made, made}
 
 module _ (s : State) (h : List Float) where
   -- 1 the pitch path, 2 the noise path
-  pub made-kind : kind_of (made s h).kind ≡ cond (noisy (core s)) 2 1
+  pub made-kind : (made s h).kind ≡ cond (noisy (core s)) 2 1
   unfolding made noise_made pitch_made
   made-kind = go (noisy (core s))
     where
-      go : (b : Bool) → kind_of (cond b (noise_made s) (pitch_made s h)).kind ≡ cond b 2 1
+      go : (b : Bool) → (cond b (noise_made s) (pitch_made s h)).kind ≡ cond b 2 1
       go true = refl
       go false = refl
 

@@ -5,6 +5,7 @@ use Rattle.settings.specs.Settings.{frame, stereo}
 use Rattle.state.specs.State.{Core, core, noisy, searches}
 use Rattle.state.specs.Refusal.{refusal}
 use Rattle.state.specs.declared.State.{State}
+use Rattle.state.specs.Answer.{kind_of}
 use Rattle.state.specs.declared.Kind.TheVariants.{Pitch, Noise}
 use Rattle.pitch_lag.specs.Lag.{lag_of}
 use Rattle.pitch_predictor.specs.Predictor.{fitted_to}
@@ -27,7 +28,7 @@ blocks c = noise_blocks c.settings c.seed (read_energies c.count (lowered c) c.b
 
 unfoldable pub noise_made : State → Made
 noise_made s = record {
-  kind = Noise;
+  kind = kind_of Noise;
   seed = noise_seed (stereo s.settings) (blocks (core s));
   lag = s.lag;
   coarse = lowered (core s);
@@ -38,7 +39,7 @@ noise_made s = record {
 
 unfoldable pub pitch_made : State → List Float → Made
 pitch_made s h = record {
-  kind = Pitch;
+  kind = kind_of Pitch;
   seed = s.seed;
   lag = cond (searches s) (lag_of (stereo s.settings) h) s.lag;
   coarse = s.coarse;

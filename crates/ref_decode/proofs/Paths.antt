@@ -16,6 +16,7 @@ use Rattle.settings.specs.Settings.{frame, stereo, check_settings}
 use Rattle.state.specs.State.{core, noisy}
 use Rattle.state.specs.Refusal.{lag_least, lag_most, AcceptedState}
 use Rattle.state.specs.declared.State.{State}
+use Rattle.state.specs.Answer.{kind_of}
 use Rattle.state.specs.declared.Kind.TheVariants.{Pitch, Noise}
 use Rattle.state.proofs.Keep.{ok-start, lag_range, pitch_start, pitch_count, pitch_searches}
 use Rattle.pitch_lag.specs.Lag.{lag_of}
@@ -50,11 +51,11 @@ module _ (s : State) (h : List Float) (z : AcceptedState s h) where
         reply-lent _ _ _ r noise_taken
         ∙ ap (λ x. after_noise s.settings s.seed x h) (q ∙ ap (λ x. read_energies s.loss_count x s.background) p)
 
-    pub noise_path : (n : ℕ) → seed ≡ n → (record { kind = Noise; seed = n; lag = s.lag; coarse = coarse; predictor = s.predictor } ≡ noise_made s)
+    pub noise_path : (k n : ℕ) → k ≡ kind_of Noise → seed ≡ n → (record { kind = k; seed = n; lag = s.lag; coarse = coarse; predictor = s.predictor } ≡ noise_made s)
         × (g ≡ with_tails h (tails_by_noise s (tails h)))
     unfolding noise_made lowered
-    noise_path n f = (
-      (λ i. record { kind = Noise; seed = (sym f ∙ ap (λ (x : Noised). x.seed) drawn) i; lag = s.lag; coarse = p i; predictor = s.predictor }),
+    noise_path k n w f = (
+      (λ i. record { kind = w i; seed = (sym f ∙ ap (λ (x : Noised). x.seed) drawn) i; lag = s.lag; coarse = p i; predictor = s.predictor }),
       ap (λ (x : Noised). x.history) drawn,
     )
 
@@ -93,11 +94,11 @@ module _ (s : State) (h : List Float) (z : AcceptedState s h) where
       unfolding pitch_made
       predictor_is = q ∙ ap (λ b. cond b (fitted_to (stereo s.settings) s.predictor (tails h)) s.predictor) (sym (pitch_searches s e))
 
-      pub pitch_path : (record { kind = Pitch; seed = s.seed; lag = lag; coarse = s.coarse; predictor = predictor } ≡ pitch_made s h)
+      pub pitch_path : (k : ℕ) → k ≡ kind_of Pitch → (record { kind = k; seed = s.seed; lag = lag; coarse = s.coarse; predictor = predictor } ≡ pitch_made s h)
           × (g ≡ with_tails h (tails_by_pitch s (pitch_made s h) (tails h)))
       unfolding pitch_made tails_by_pitch
-      pitch_path = (
-        (λ i. record { kind = Pitch; seed = s.seed; lag = lag_is i; coarse = s.coarse; predictor = predictor_is i }),
+      pitch_path k w = (
+        (λ i. record { kind = w i; seed = s.seed; lag = lag_is i; coarse = s.coarse; predictor = predictor_is i }),
         reply-lent _ _ _ r pitch_taken
             ∙ ap₂ (λ x y. with_tails h (pitch_tails (stereo s.settings) (frame s.settings) x (eqb s.loss_count 0) y s.filter (tails h))) lag_is predictor_is,
       )

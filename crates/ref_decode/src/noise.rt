@@ -28,7 +28,7 @@ pub(crate) fn noise_made(s: State, history: &mut [f32]) -> Made
     // a field that is an array goes into the answer by a variable: straight in the literal it is not covered by the check
     let predictor = s.predictor;
     Made {
-        kind: Kind::Noise,
+        kind: u32::from(Kind::Noise),
         seed,
         lag: s.lag,
         coarse,

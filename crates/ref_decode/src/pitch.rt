@@ -38,7 +38,7 @@ pub(crate) fn pitch_made(s: State, history: &mut [f32]) -> Made
     pitch_loss(s.settings, history, pitch).unwrap();
     let coarse = s.coarse;
     Made {
-        kind: Kind::Pitch,
+        kind: u32::from(Kind::Pitch),
         seed: s.seed,
         lag,
         coarse,

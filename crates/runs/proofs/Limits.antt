@@ -14,7 +14,6 @@ use Rattle.draw.proofs.Draws.{draws-add}
 use Rattle.history.specs.History.{half, Tails, tails, both}
 use Rattle.history.proofs.Parts.{newest-tails}
 use Rattle.settings.specs.Settings.{frame, stereo, needed, draws_per_loss}
-use Rattle.state.specs.Answer.{kind_of}
 use Rattle.state.specs.State.{Core, core, noisy, searches}
 use Rattle.state.specs.Refusal.{AcceptedState}
 use Rattle.state.specs.declared.State.{State}
@@ -78,7 +77,7 @@ module _ (n : ℕ) (s : State) (h g : List Float) (o : Ok s h) (q : Ok s g) (lat
   unfolding concealed finish searches
   concealed-a = record {
     same = record {
-      report = ap (λ (m : Made). record { number = 0; kind = kind_of m.kind; samples = needed s.settings }) made-same;
+      report = ap (λ (m : Made). record { number = 0; kind = m.kind; samples = needed s.settings }) made-same;
       pcm = ap (λ (z : Sound). z.pcm) sound-same;
       state = λ i. record {
         settings = s.settings;

@@ -18,7 +18,7 @@ pub record Report : Type 0 where
   pub samples : ℕ
 
 abbrev pub report_of : Result Answer Refusal → Report
-report_of (Ok a) = record { number = 0; kind = kind_of a.kind; samples = a.samples }
+report_of (Ok a) = record { number = 0; kind = a.kind; samples = a.samples }
 report_of (Err e) = record { number = number_of e; kind = 0; samples = 0 }
 
 -- number, kind and sample count

@@ -48,10 +48,11 @@ impl From<Kind> for u32 {
     }
 }
 
-// What an accepted call did: its path, the PCM samples written, and the state after it.
+// What an accepted call did: its kind, the PCM samples written, and the state after it. The kind as document 01's number: the end
+// of a call takes any, and passes it on.
 #[derive(Clone, Copy)]
 pub struct Answer {
-    pub kind: Kind,
+    pub kind: u32,
     pub samples: usize,
     pub state: State,
 }
@@ -72,7 +73,7 @@ pub fn report(call: &Result<Answer, Refusal>) -> [u32; 3]
     match call {
         Ok(a) => [
             ACCEPTED,
-            u32::from(a.kind),
+            a.kind,
             u32::try_from(a.samples).unwrap_or(u32::MAX),
         ],
         Err(e) => [u32::from(*e), NOTHING, NOTHING],

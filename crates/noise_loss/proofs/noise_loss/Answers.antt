@@ -29,11 +29,11 @@ returns-then-is_stereo c =
 
 pub returns-else-is_stereo : goal.returns-else-is_stereo
 returns-else-is_stereo c =
-    let n = c.if-history-ne-WHOLE.false in
+    let size = c.if-history-ne-WHOLE.false in
     let s = c.split_at_mut-first in
     let one = c.noise_channel-one in
     let a = c.args in
     let g = good a.k _ c.settings_pass.ensures c.if-not-settings_pass.false in
-    reply-yes _ _ _ (takes_whole a.k _ (sym c.settings_pass.ensures ∙ c.if-not-settings_pass.false) n)
-    (mono-is a.k g a.history.now n a.seed a.energies _ _ _ _ s.ensures.front (search rules) one.ensures.0 one.ensures.1
+    reply-yes _ _ _ (takes_whole a.k _ (sym c.settings_pass.ensures ∙ c.if-not-settings_pass.false) size)
+    (mono-is a.k g a.history.now size a.seed a.energies _ _ _ _ s.ensures.front (search rules) one.ensures.0 one.ensures.1
     _ (sym c.is_stereo.ensures ∙ c.if-is_stereo.false) s.ensures.back)

@@ -6,4 +6,4 @@ use Rattle.roll.proofs.roll.Goals as goal
 pub returns : goal.returns
 returns c =
     reply-yes _ _ _ (le-leb _ _ c.if-newest-n.false)
-    (roll-is c.args.frame.now c.args.newest.now _ _ _ _ c.if-newest-n.false refl refl c.copy_within.ensures.after c.copy_from_slice.ensures.after)
+    (roll-is c.args.frame.now c.args.newest.now _ _ _ _ c.if-newest-n.false refl refl c.copy_within.ensures.after c.take_frame.ensures)

@@ -11,4 +11,4 @@ pub returns : goal.returns
 returns c =
     let s = c.args.s in
     noise_path s c.args.history.now c.requires _ _ _ _ _ c.lower_energies-coarse.ensures c.read_energies-energies.ensures c.noise_loss.ensures
-    _ (ap (value_or s.seed) c.unwrap-seed.ensures)
+    _ _ c.from.ensures (ap (value_or s.seed) c.unwrap-seed.ensures)

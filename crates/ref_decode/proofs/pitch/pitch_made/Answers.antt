@@ -56,4 +56,4 @@ returns c =
           ∙ ap (λ b. fitted_to b s.predictor (tails h)) w.is_stereo-two.ensures)
       | else-first w ↦ rw (ne_eqb s.loss_count 0 w.if-first.false) (ap (λ (p : ℕ × List Float). p.1) w.lag-is)
     ] in
-    pitch_path s h c.requires.0 c.requires.1 _ (lag-is (goal.at.returns c).Joined-first) _ _ _ predictor c.pitch_loss.ensures
+    pitch_path s h c.requires.0 c.requires.1 _ (lag-is (goal.at.returns c).Joined-first) _ _ _ predictor c.pitch_loss.ensures _ c.from.ensures
