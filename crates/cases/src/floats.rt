@@ -18,7 +18,7 @@ pub(crate) fn answer(wire: &mut Wire, op: u32) -> io::Result<bool> {
         106 => wire.answer(|x: f32| x)?,
         107 => wire.answer(noise_value)?,
         108 => wire.answer_two(wrapping_mul_u32)?,
-        // two words are taken of an op that is not known too: what is left of the input is what it always was
+        // not listed: two words are taken with it, as compare/PROTOCOL.md says
         _ => {
             wire.read::<u32>()?;
             wire.read::<u32>()?;

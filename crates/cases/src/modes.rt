@@ -15,7 +15,7 @@ pub(crate) fn answer(wire: &mut Wire, op: u32) -> io::Result<bool> {
         503 => wire.answer(|i: u32| power_at(u64::from(i)))?,
         504 => wire.answer(mean_energy)?,
         505 => wire.answer(band_edge)?,
-        // a word is taken of an op that is not known too, as in `floats` two are
+        // not listed: a word is taken with it, as compare/PROTOCOL.md says
         _ => {
             wire.read::<u32>()?;
             return Ok(false);
